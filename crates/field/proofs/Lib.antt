@@ -1,0 +1,10 @@
+pub mod Operands
+pub mod Powers
+pub mod Reciprocals
+pub mod Tables
+pub mod PolynomialRing
+pub mod BytesRing
+pub mod BytesTables
+pub mod BytesLaws
+pub mod Remainders
+pub mod PrimeLaws

@@ -1,0 +1,5 @@
+pub mod Laws
+pub mod Polynomials
+pub mod Reciprocals
+pub mod Bytes
+pub mod Prime
