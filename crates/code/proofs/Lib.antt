@@ -1,0 +1,2 @@
+pub mod CountedRound
+pub mod Places
