@@ -1,0 +1,19 @@
+use borrow.Author.Count.{below-more}
+use mathlib.Core.Logic.{_≢_}
+use Prim.Native.Nat.{_<_}
+use lib.ListN.{length}
+use lib.Seq.{getD-set-same, getD-set-other}
+use native.Mathlib.Omega.{arith}
+use Rattle.std.proofs.shelf.Bits.{mul-add-lt}
+use Rattle.encode.proofs.columns.gather.Needs as need
+
+pub index-file-j : need.index-file-j
+index-file-j c =
+    let low : c .loop-j .j < length (c .args .column .now) = omega arith in
+    omega (arith, mul-add-lt (c .loop-j .j) (c .args .m) (c .args .t) (length (c .args .column .now)) low (c .pre .inside))
+
+pub loop-j-again : need.loop-j-again
+loop-j-again c =
+    below-more _ _
+      (λ k h. let ne : k ≢ c .loop-j .j = omega arith in rw getD-set-other (c .loop-j .inv k h))
+      (let lt : c .loop-j .j < length (c .loop-j .column) = omega arith in rw getD-set-same)

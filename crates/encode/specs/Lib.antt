@@ -1,0 +1,4 @@
+pub mod Encoding
+pub mod Systems
+pub mod Scratch
+pub mod Rules
