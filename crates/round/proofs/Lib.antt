@@ -1,0 +1,9 @@
+pub mod Making
+pub mod Steps
+pub mod Places
+pub mod Fetches
+pub mod Mending
+pub mod Apart
+pub mod Nodes
+pub mod Rounds
+pub mod Refusing
