@@ -1,0 +1,3 @@
+pub mod Latest
+pub mod Uses
+pub mod Grows

@@ -1,0 +1,4 @@
+pub mod Tests
+pub mod Fronts
+pub mod Reading
+pub mod Walks

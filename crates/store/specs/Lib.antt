@@ -1,0 +1,4 @@
+pub mod Meaning
+pub mod Sizes
+pub mod Grids
+pub mod Shown
