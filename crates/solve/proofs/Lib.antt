@@ -1,0 +1,10 @@
+mod Elimination
+mod Memory
+mod Steps
+mod Places
+mod Gathering
+mod UnitFiles
+mod Loading
+mod Meeting
+mod Deciding
+mod Answering
