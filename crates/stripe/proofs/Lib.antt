@@ -1,0 +1,12 @@
+pub mod Decisions
+pub mod Answered
+pub mod Fitting
+pub mod Laying
+pub mod Losing
+pub mod Reading
+pub mod Changing
+pub mod Mending
+pub mod Chain
+pub mod Stores
+pub mod Surviving
+pub mod Repairing
