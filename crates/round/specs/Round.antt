@@ -50,6 +50,6 @@ pub record RoundOf (code : Code) (f : ℕ) : Type 0 where
     → (c : ℕ) → c < width code
     → rebuilt F code c (λ s. x (wanted code f (c * code .m + s) .0) (wanted code f (c * code .m + s) .1)) ≡ x f c
 
--- There is no code and no node of it for which this fails.
+-- All of this holds of every code and every node of it.
 abbrev pub Every-round : Type 0
 Every-round = (code : Code) (f : ℕ) → f < code .n → RoundOf code f

@@ -21,7 +21,8 @@ use Rattle.theorems.proofs.Factors.{weighted-sum}
 use Rattle.theorems.proofs.Stripes.{stripe-of, stripe-exists}
 use Rattle.solve.specs.Systems.{entry, Keeps, Solution, Reduced, KnownRows}
 use Rattle.code.specs.Held.{Inside, ForeignAt}
-use Rattle.solve.specs.Cells.{Lists, Loaded, TookAll, Contradicts, Meets, Factors, Vector, cellOf, cellCount, marked}
+use Rattle.encode.specs.Encoding.{cellCount}
+use Rattle.solve.specs.Cells.{Lists, Loaded, TookAll, Contradicts, Meets, Factors, Vector, cellOf, marked}
 use Rattle.solve.specs.Answers.{SharedAt}
 use Rattle.solve.specs.Decisions.{NoForeign, Complete, NoneMeets, FitsSolve, Lone, DifferAt, TwoFit, OnlyFront}
 use Rattle.solve.proofs.Places.{place-of, place-split, width-positive}

@@ -12,7 +12,8 @@ use Rattle.field.specs.Laws.{Operations}
 use Rattle.code.specs.declared.record.Code.{Code}
 use Rattle.code.specs.Stripe.{Held, width}
 use Rattle.code.specs.Held.{Inside, ForeignAt, Before, First}
-use Rattle.solve.specs.Cells.{Lists, Gathered, cellCount}
+use Rattle.encode.specs.Encoding.{cellCount}
+use Rattle.solve.specs.Cells.{Lists, Gathered}
 use Rattle.solve.proofs.Places.{place-of, place-split, width-positive}
 
 -- a cell that comes before has the smaller number

@@ -19,7 +19,8 @@ use Rattle.theorems.specs.Linear.{IsFactor}
 use Rattle.code.proofs.Places.{place-injective, place-below}
 use Rattle.theorems.proofs.Files.{place-node}
 use Rattle.solve.specs.Systems.{entry, Keeps, Solution, Pivot, Empty, Reduced, KnownRows}
-use Rattle.solve.specs.Cells.{Loaded, LoadedRow, DataMet, DataCell, Meets, Factors, Vector, cellAt, cellOf, cellCount}
+use Rattle.encode.specs.Encoding.{cellCount}
+use Rattle.solve.specs.Cells.{Loaded, LoadedRow, DataMet, DataCell, Meets, Factors, Vector, cellAt, cellOf}
 use Rattle.solve.proofs.Places.{place-of, place-split, width-positive, few-symbols}
 use Rattle.solve.proofs.Elimination.{keeps-alone, keeps-zeros}
 

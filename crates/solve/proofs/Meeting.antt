@@ -17,7 +17,8 @@ use Rattle.theorems.proofs.Files.{single-file}
 use Rattle.theorems.proofs.Stripes.{stripe-of, stripe-exists}
 use Rattle.solve.specs.Systems.{entry, Keeps, Solution, Reduced, KnownRows, Absorbed}
 use Rattle.solve.specs.Factors.{IsEquation}
-use Rattle.solve.specs.Cells.{Took, TookAll, Contradicts, DataMet, DataCell, Meets, Factors, Vector, cellOf, cellCount}
+use Rattle.encode.specs.Encoding.{cellCount}
+use Rattle.solve.specs.Cells.{Took, TookAll, Contradicts, DataMet, DataCell, Meets, Factors, Vector, cellOf}
 
 -- each place has its factors
 pub factor-of : (F : Operations) (L : Laws F) (code : Code) (p : ℕ) → p < code .k * code .m → (y : Symbols) × IsFactor F code p y

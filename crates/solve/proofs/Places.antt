@@ -7,7 +7,7 @@ use native.Mathlib.Decide.{decLt}
 use Rattle.code.specs.declared.record.Code.{Code}
 use Rattle.code.specs.Stripe.{width}
 use Rattle.code.proofs.Places.{place-injective}
-use Rattle.solve.specs.Cells.{cellCount}
+use Rattle.encode.specs.Encoding.{cellCount}
 
 -- row and column of number x of n rows of w numbers
 pub place-of : (n w x : ℕ) → 0 < w → x < n * w → (x / w < n) × (x % w < w) × (x / w * w + x % w ≡ x)

@@ -16,12 +16,9 @@ use Rattle.code.specs.declared.refusal.Refusal.{Refusal}
 use Rattle.code.specs.declared.refusal.Refusal.the-variants.{Foreign}
 use Rattle.code.specs.Held.{Inside, ForeignAt, First}
 use Rattle.code.specs.Stripe.{Symbols, Held, width}
+use Rattle.encode.specs.Encoding.{cellCount}
 use Rattle.theorems.specs.Linear.{IsFactor}
 use Rattle.solve.specs.Systems.{Solution, Reduced, KnownRows, Empty, entry}
-
--- the number of cells of the code
-abbrev pub cellCount : Code → ℕ
-cellCount code = code .n * width code
 
 -- a cell in a list of numbers: a lost one is 65,536
 abbrev pub marked : Option ℕ → ℕ

@@ -15,7 +15,8 @@ use Rattle.code.specs.declared.refusal.Refusal.the-variants.{Bounds, Shape, Len
 use Rattle.code.specs.Stripe.{Symbols, Held, IsFile, Fits}
 use Rattle.solve.specs.Systems.{entry, Solution, Reduced}
 use Rattle.code.specs.Held.{Inside, ForeignAt, First}
-use Rattle.solve.specs.Cells.{Factors, Vector, Meets, cellCount}
+use Rattle.encode.specs.Encoding.{cellCount}
+use Rattle.solve.specs.Cells.{Factors, Vector, Meets}
 use Rattle.solve.specs.Answers.{SharedAt}
 
 -- no present cell is foreign
@@ -54,6 +55,7 @@ Fails F code held Open Contradiction = NoForeign F code held × ((u : List ℕ) 
 Fails F code held Open Ambiguous = NoForeign F code held × Open
 Fails F code held Open Allowance = ⊥
 
+-- What building the system answers: its N symbols, with the fitting files for solutions, or why there is no system.
 abbrev pub Built : Operations → Code → Held → List ℕ → Result ℕ Refusal → Type 0
 Built F code held w (Ok n) = (n ≡ code .k * code .m) × FitsSolve F code held w
 Built F code held w (Err e) = Fails F code held ⊥ e
@@ -67,6 +69,7 @@ Lone N A p None = (A p p ≡ 0) ⊎ ((c : ℕ) × (c < N) × (c ≡ p → ⊥) �
 abbrev pub DifferAt : Operations → Code → Held → ℕ → Type 0
 DifferAt F code held place = (u v : List ℕ) × Fits F code held u × Fits F code held v × (getD u place 0 ≡ getD v place 0 → ⊥)
 
+-- What deciding a place answers: the symbol that all fitting files share there, or why there is none.
 abbrev pub Decided : Operations → Code → Held → ℕ → Result ℕ Refusal → Type 0
 Decided F code held place (Ok value) = NoForeign F code held × SharedAt F code held place value
 Decided F code held place (Err e) = Fails F code held (DifferAt F code held place) e
@@ -83,6 +86,7 @@ pub record OnlyFront (F : Operations) (code : Code) (held : Held) (w : List ℕ)
   pub symbols : (p : ℕ) → p < code .k * code .m → getD w p 0 ≡ getD fitting p 0
   pub zeros : (p : ℕ) → code .k * code .m ≤ p → getD w p 0 ≡ 0
 
+-- What finding the only file answers: its length, with the file in the memory, or why there is none.
 abbrev pub OnlyDecided : Operations → Code → Held → List ℕ → Result ℕ Refusal → Type 0
 OnlyDecided F code held w (Ok n) = NoForeign F code held × (n ≡ code .k * code .m) × OnlyFront F code held w
 OnlyDecided F code held w (Err e) = Fails F code held (TwoFit F code held) e

@@ -2,7 +2,8 @@
 ghost use mathlib.Core.Path.{_≡_};
 ghost use Prim.Native.Nat.{ℕ, _+_, _*_, _<_, _≤_};
 ghost use lib.ListN.{length, getD};
-ghost use Rattle.solve.specs.Cells.{Gathered, cellCount};
+ghost use Rattle.encode.specs.Encoding.{cellCount};
+ghost use Rattle.solve.specs.Cells.{Gathered};
 
 use code::Code;
 use code::Refusal;

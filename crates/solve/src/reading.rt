@@ -4,7 +4,7 @@ ghost use mathlib.Core.Bool.{true, false};
 ghost use Prim.Native.Nat.{ℕ, _+_, _-_, _*_, _<_, _≤_};
 ghost use lib.ListN.{length, getD};
 ghost use Rattle.solve.specs.Systems.{entry};
-ghost use Rattle.solve.specs.Cells.{cellCount};
+ghost use Rattle.encode.specs.Encoding.{cellCount};
 ghost use Rattle.code.specs.Work.{front};
 ghost use Rattle.solve.specs.Decisions.{Complete, NoneMeets, Built, Lone, Decided, OnlyDecided, FrontIs};
 ghost use Rattle.std.specs.declared.option.Option.the-variants.{Some, None};

@@ -5,7 +5,8 @@ ghost use Prim.Native.Nat.{ℕ, _+_, _-_, _*_, _<_, _≤_};
 ghost use lib.ListN.{length, getD};
 ghost use Rattle.solve.specs.Systems.{entry, Reduced, KnownRows};
 ghost use Rattle.solve.specs.Factors.{ColumnTable};
-ghost use Rattle.solve.specs.Cells.{Loaded, Took, TookAll, Contradicts, DataMet, cellCount};
+ghost use Rattle.encode.specs.Encoding.{cellCount};
+ghost use Rattle.solve.specs.Cells.{Loaded, Took, TookAll, Contradicts, DataMet};
 
 use crate::cells::LOST;
 use crate::factors::equation;

@@ -1,7 +1,7 @@
 use mathlib.Core.Path.{_≡_, refl, sym, _∙_, ap, ap₂}
 use Prim.Native.Nat.{_+_, _*_, _/_, _%_, _<_, _≤_}
 use native.Mathlib.Omega.{arith}
-use Rattle.solve.specs.Cells.{cellCount}
+use Rattle.encode.specs.Encoding.{cellCount}
 use Rattle.solve.proofs.Places.{few-cells}
 use Rattle.solve.proofs.Gathering.{foreign-answer}
 use Rattle.solve.proofs.cells.gather.Needs as need
