@@ -1,6 +1,8 @@
 // What follows from the laws of a field, for every field that keeps them: products, powers, sums over an index, and
 // Vandermonde systems. Each function computes nothing: its contract is the theorem, and a call of it gives the caller
 // the theorem.
+#![tactic(auto)]
+
 ghost use Rattle.algebra.specs.Consequences.{ZeroProducts, NonzeroPowers, PowerLaws, PointsDiffer};
 ghost use Rattle.algebra.specs.Consequences.{SumsByTerms, LinearSums, SwappedSums, SplitSums};
 ghost use Rattle.algebra.specs.Vandermonde.{VandermondeUnique, VandermondeSolvable, VandermondeCompletes};

@@ -17,20 +17,21 @@ use Rattle.card.proofs.Latest.{cells_push}
 
 -- the facts that a card of these numbers and bytes keeps
 abbrev pub Sound : ℕ → ℕ → ℕ → List ℕ → Type 0
-Sound used nodes columns bytes =
-    (used ≤ length bytes)
-    × ((take used bytes ≡ all_bytes (commands_in (take used bytes)))
-    × ((all_inside nodes columns (commands_in (take used bytes)) ≡ true)
-    × (((nodes ≡ counted_nodes nodes columns) × (columns ≡ counted_columns columns)) × Unit {0})))
+Sound used nodes columns bytes = record {
+  room : used ≤ length bytes;
+  whole : take used bytes ≡ all_bytes (commands_in (take used bytes));
+  inside : all_inside nodes columns (commands_in (take used bytes)) ≡ true;
+  shape : (nodes ≡ counted_nodes nodes columns) × (columns ≡ counted_columns columns)
+}
 
 pub sound_of : (k : Card) → Sound k.used k.nodes k.columns (lent_bytes k)
-sound_of k = (k.room, (k.whole, (k.inside, (k.shape, tt))))
+sound_of k = record { room = k.room; whole = k.whole; inside = k.inside; shape = k.shape }
 
 -- a byte put behind the used part leaves the commands
 pub sound_set : (used nodes columns : ℕ) (bytes : List ℕ) (i v : ℕ) → used ≤ i → Sound used nodes columns bytes → Sound used nodes columns (set bytes i v)
 sound_set used nodes columns bytes i v h s =
     let e : take used (set bytes i v) ≡ take used bytes = take-set-le used bytes i v h in
-    (rw length-set s.0, (rw e s.1.0, (rw e s.1.1.0, s.1.1.1)))
+    record { room = rw length-set s.room; whole = rw e s.whole; inside = rw e s.inside; shape = s.shape }
 
 -- the bytes with a command behind the used part
 abbrev pub with_command : List ℕ → ℕ → Command → List ℕ
@@ -76,16 +77,13 @@ pub sound_grown : (used nodes columns : ℕ) (bytes : List ℕ) (x : Command) �
 sound_grown used nodes columns bytes x h i s =
     let w = width_le x in
     let e = length_grown bytes used x h in
-    let g = grown_reads bytes used x s.0 s.1.0 in (
-      omega arith,
-      (
-        g.0 ∙ ap all_bytes (sym g.1),
-        (
-          ap (all_inside nodes columns) g.1 ∙ all_inside_push nodes columns (commands_in (take used bytes)) x s.1.1.0 (inside_test nodes columns x i),
-          s.1.1.1,
-        ),
-      ),
-    )
+    let g = grown_reads bytes used x s.room s.whole in
+    record {
+      room = omega arith;
+      whole = g.0 ∙ ap all_bytes (sym g.1);
+      inside = ap (all_inside nodes columns) g.1 ∙ all_inside_push nodes columns (commands_in (take used bytes)) x s.inside (inside_test nodes columns x i);
+      shape = s.shape;
+    }
 
 -- three and five bytes put one after the other
 pub three_sets : (bytes : List ℕ) (u a b c : ℕ) → u + 3 ≤ length bytes

@@ -1,4 +1,6 @@
 // A store whose memory is a list of commands.
+#![tactic(auto)]
+
 ghost use Rattle.std.specs.Prelude.{◌≡◌, true, List, [], length, Some, None};
 ghost use Rattle.store.specs.Meaning.{Changed, Blank, allowed};
 ghost use Rattle.store.specs.Sizes.{counted_columns, counted_nodes};

@@ -1,4 +1,6 @@
 // The code: its record, the rules of a stripe, and what is computed from them.
+#![tactic(auto)]
+
 ghost use Rattle.std.specs.Prelude.{◌≡◌, ℕ, ◌+◌, ◌-◌, ◌*◌, ◌<◌, ◌≤◌};
 ghost use Rattle.code.specs.Bounds.{Lawful, Made};
 ghost use Rattle.code.specs.Positions.{BehindUndoesAhead, ahead, behind};

@@ -1,7 +1,7 @@
 -- Bytes can be read as commands in one way only.
 use Rattle.std.proofs.Common.{◌≡◌, ℕ, ◌/◌, ◌%◌, ◌≤◌, List, [], ◌∷◌, ◌++◌, length, take, drop, sym, refl, ap, ◌∙◌, append_assoc, div-add-mod', arith, length-append}
 use Rattle.std.proofs.lemmas.List.{take_at, take-append-drop, length-take-le}
-use Rattle.std.specs.List.{AllByRecursion as All}
+use Rattle.std.specs.List.{AllByRecursion}
 use Rattle.commands.specs.declared.command.Command.{Command}
 use Rattle.commands.specs.declared.command.Command.TheVariants.{Write, Lose}
 use Rattle.commands.specs.Commands.{bytes_of, all_bytes, Inside, Longest, commands_in, ReadsBack, OneReading}
@@ -46,7 +46,7 @@ abbrev pub Stuck : ℕ → ℕ → List ℕ → Type 0
 Stuck nodes columns bytes = (x : Command) (rest : List ℕ) → Inside nodes columns x → bytes ≡ bytes_of x ++ rest → ⊥
 
 -- where the bytes are stuck after some commands, no longer beginning is made of commands
-pub no_longer : (nodes columns : ℕ) (xs ys : List Command) (r t : List ℕ) → All (Inside nodes columns) ys → Stuck nodes columns r
+pub no_longer : (nodes columns : ℕ) (xs ys : List Command) (r t : List ℕ) → AllByRecursion (Inside nodes columns) ys → Stuck nodes columns r
     → all_bytes xs ++ r ≡ all_bytes ys ++ t → length (all_bytes ys) ≤ length (all_bytes xs)
 no_longer nodes columns xs [] r t h s e = omega arith
 no_longer nodes columns [] (y ∷ ys) r t h s e = absurd (s y (all_bytes ys ++ t) h.0 (e ∙ append_assoc (bytes_of y) (all_bytes ys) t))
@@ -59,7 +59,7 @@ no_longer nodes columns (x ∷ xs) (y ∷ ys) r t h s e =
 
 -- the commands up to where the bytes are stuck are the longest beginning
 pub longest : (nodes columns : ℕ) (bytes rest : List ℕ) (xs : List Command) (used : ℕ) → bytes ≡ all_bytes xs ++ rest → used ≡ length (all_bytes xs)
-    → All (Inside nodes columns) xs → Stuck nodes columns rest → Longest nodes columns bytes used xs
+    → AllByRecursion (Inside nodes columns) xs → Stuck nodes columns rest → Longest nodes columns bytes used xs
 longest nodes columns bytes rest xs used e u h s = record {
   holds = record {
     within = rw e (simp length-append (omega arith));

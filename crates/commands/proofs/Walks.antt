@@ -1,7 +1,7 @@
 -- A walk over the commands of a card, and where it ends.
 use Rattle.std.proofs.Common.{◌≡◌, ℕ, ◌+◌, ◌-◌, ◌<◌, ◌≤◌, List, [], ◌∷◌, ◌++◌, length, get_or, take, Ok, Err, Result, sym, refl, ap, ◌∙◌, subst, inl, inr, append_assoc, arith, length-append}
 use Rattle.std.proofs.lemmas.List.{flat_map_more, length_push, length-take-le}
-use Rattle.std.specs.List.{AllByRecursion as All}
+use Rattle.std.specs.List.{AllByRecursion}
 use Rattle.commands.specs.declared.command.Command.{Command}
 use Rattle.commands.specs.declared.command.Command.TheVariants.{Write, Lose}
 use Rattle.commands.specs.declared.command.CardFault.{CardFault}
@@ -14,13 +14,13 @@ use Rattle.commands.proofs.Reading.{command_same, reads_back, Stuck, longest}
 pub record Walked (nodes columns : ℕ) (bytes : List ℕ) (count : ℕ) (rest : List ℕ) : Type 0 where
   pub commands : List Command
   pub front : bytes ≡ all_bytes commands ++ rest
-  pub inside : All (Inside nodes columns) commands
+  pub inside : AllByRecursion (Inside nodes columns) commands
   pub counted : count ≡ length commands
 
 pub walked_none : (nodes columns : ℕ) (bytes : List ℕ) → Walked nodes columns bytes 0 bytes
 walked_none nodes columns bytes = record { commands = []; front = refl; inside = tt; counted = refl }
 
-all_push : {A : Type 0} (P : A → Type 0) (xs : List A) (y : A) → All P xs → P y → All P (xs ++ y ∷ [])
+all_push : {A : Type 0} (P : A → Type 0) (xs : List A) (y : A) → AllByRecursion P xs → P y → AllByRecursion P (xs ++ y ∷ [])
 all_push P [] y h p = (p, tt)
 all_push P (x ∷ xs) y h p = (h.0, all_push P xs y h.1 p)
 

@@ -1,6 +1,6 @@
 -- The commands of a card as bytes, and what a list of commands means for a cell.
 use Rattle.std.specs.Prelude.{◌≡◌, ℕ, ◌+◌, ◌-◌, ◌*◌, ◌/◌, ◌%◌, ◌<◌, ◌≤◌, Bool, true, cond, ◌&&◌, List, [], ◌∷◌, ◌++◌, length, take, Some, None, Option, ◌==◌, nat_lt}
-use Rattle.std.specs.List.{flat_map, AllByRecursion as All}
+use Rattle.std.specs.List.{flat_map, AllByRecursion}
 use Rattle.store.specs.Meaning.{Meaning, Cells}
 use Rattle.commands.specs.declared.command.Command.{Command}
 use Rattle.commands.specs.declared.command.Command.TheVariants.{Write, Lose}
@@ -92,7 +92,7 @@ card commands nodes columns free = record {
 pub record Holds (nodes columns : ℕ) (bytes : List ℕ) (used : ℕ) (commands : List Command) : Type 0 where
   pub within : used ≤ length bytes
   pub front : take used bytes ≡ all_bytes commands
-  pub inside : All (Inside nodes columns) commands
+  pub inside : AllByRecursion (Inside nodes columns) commands
 
 -- The longest beginning of the bytes that is made of whole commands on cells inside.
 pub record Longest (nodes columns : ℕ) (bytes : List ℕ) (used : ℕ) (commands : List Command) : Type 0 where

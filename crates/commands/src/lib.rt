@@ -1,4 +1,6 @@
 // The commands of a card as bytes, a walk over them, and the check of a card.
+#![tactic(auto)]
+
 ghost use Rattle.std.specs.Prelude.{◌≡◌, ◌<◌, if◌then◌else◌, MatchResult};
 ghost use Rattle.store.specs.Sizes.{counted_columns, counted_nodes};
 ghost use Rattle.commands.specs.Commands.{node_of, column_of, value_of, is_on, TwoBytes, Inside, ReadsBack, OneReading};

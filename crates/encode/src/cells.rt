@@ -12,9 +12,9 @@ use field::Field;
 // The powers of α^i that weigh the symbols of a group: number 8·i + t is α^(i·t).
 pub(crate) fn group_weights<F: Field>(code: &Code, points: &[u16], weights: &mut [u16])
     requires long { length points.now ≡ 64 }
-    requires powers { PowersOf ops ops.α points.now }
+    requires powers { PowersOf F.ops F.ops.α points.now }
     requires room { length weights.old ≡ 24 }
-    ensures { GroupWeights ops code.now weights.new }
+    ensures { GroupWeights F.ops code.now weights.new }
 {
     for i in 0..code.coded_columns() {
         let at = i * 8;
@@ -35,11 +35,11 @@ pub(crate) fn back(n: usize, v: usize, s: usize) -> usize
 // The coded symbol of node v, column m + i: the weighted sum of its group's data symbols.
 fn group_sum<F: Field>(code: &Code, weights: &[u16], columns: &[u16], v: usize, i: usize) -> u16
     requires weights { length weights.now ≡ 24 }
-    requires weigh { GroupWeights ops code.now weights.now }
+    requires weigh { GroupWeights F.ops code.now weights.now }
     requires columns { length columns.now ≡ 512 }
     requires node { v < code.now.n }
     requires column { i < code.now.a }
-    ensures { result ≡ coded ops code.now (in_columns columns.now) v i }
+    ensures { result ≡ coded F.ops code.now (in_columns columns.now) v i }
 {
     let n = code.nodes();
     let mut sum = 0;
@@ -53,11 +53,11 @@ fn group_sum<F: Field>(code: &Code, weights: &[u16], columns: &[u16], v: usize, 
 // The symbol of node v, column c.
 fn cell<F: Field>(code: &Code, weights: &[u16], columns: &[u16], v: usize, c: usize) -> u16
     requires weights { length weights.now ≡ 24 }
-    requires weigh { GroupWeights ops code.now weights.now }
+    requires weigh { GroupWeights F.ops code.now weights.now }
     requires columns { length columns.now ≡ 512 }
     requires node { v < code.now.n }
     requires column { c < width code.now }
-    ensures { result ≡ cell_of ops code.now (in_columns columns.now) v c }
+    ensures { result ≡ cell_of F.ops code.now (in_columns columns.now) v c }
 {
     let m = code.data_columns();
     if c < m {
@@ -70,11 +70,11 @@ fn cell<F: Field>(code: &Code, weights: &[u16], columns: &[u16], v: usize, c: us
 // Writes the cells of node v.
 fn write_node<F: Field>(code: &Code, weights: &[u16], columns: &[u16], v: usize, row: &mut [u16])
     requires weights { length weights.now ≡ 24 }
-    requires weigh { GroupWeights ops code.now weights.now }
+    requires weigh { GroupWeights F.ops code.now weights.now }
     requires columns { length columns.now ≡ 512 }
     requires node { v < code.now.n }
     requires row { length row.old ≡ width code.now }
-    ensures { (c : ℕ) → c < width code.now → slice_index row.new c ≡ cell_of ops code.now (in_columns columns.now) v c }
+    ensures { (c : ℕ) → c < width code.now → slice_index row.new c ≡ cell_of F.ops code.now (in_columns columns.now) v c }
 {
     for (c, x) in row.iter_mut().enumerate() {
         *x = cell::<F>(code, weights, columns, v, c);
@@ -84,10 +84,10 @@ fn write_node<F: Field>(code: &Code, weights: &[u16], columns: &[u16], v: usize,
 // Writes the cells of all nodes, one node after the other.
 pub(crate) fn write_nodes<F: Field>(code: &Code, points: &[u16], columns: &[u16], cells: &mut [u16])
     requires long { length points.now ≡ 64 }
-    requires powers { PowersOf ops ops.α points.now }
+    requires powers { PowersOf F.ops F.ops.α points.now }
     requires columns { length columns.now ≡ 512 }
     requires room { cell_count code.now ≤ length cells.old }
-    ensures written { (v c : ℕ) → v < code.now.n → c < width code.now → in_memory code.now cells.new v c ≡ cell_of ops code.now (in_columns columns.now) v c }
+    ensures written { (v c : ℕ) → v < code.now.n → c < width code.now → in_memory code.now cells.new v c ≡ cell_of F.ops code.now (in_columns columns.now) v c }
     ensures kept { (p : ℕ) → cell_count code.now ≤ p → slice_index cells.new p ≡ slice_index cells.old p }
 {
     let mut weights = [0u16; 24];

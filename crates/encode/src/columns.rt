@@ -25,8 +25,8 @@ fn gather(file: &[u16], m: usize, t: usize, column: &mut [u16])
 
 // Puts the file's symbols into the data places of all columns.
 fn place_file(code: &Code, file: &[u16], columns: &mut [u16])
-    requires file_len { length file.now ≡ code.now.k * code.now.m }
-    requires columns_len { length columns.old ≡ 512 }
+    requires file { length file.now ≡ code.now.k * code.now.m }
+    requires columns { length columns.old ≡ 512 }
     ensures { Starts code.now file.now (in_columns columns.new) }
 {
     let k = code.data_nodes();
@@ -39,10 +39,10 @@ fn place_file(code: &Code, file: &[u16], columns: &mut [u16])
 
 // The target of the syndrome with these weights goes to parity place i of each column.
 fn set_targets<F: Field>(code: &Code, i: usize, weights: &[u16], columns: &mut [u16])
-    requires i_bound { i < parity code.now }
-    requires k_in_bounds { code.now.k ≤ length weights.now }
-    requires columns_len { length columns.old ≡ 512 }
-    ensures made { (t : ℕ) → t < code.now.m → in_columns columns.new (code.now.k + i) t ≡ ops.sub 0 (sum ops code.now.k (λ j. ops.mul (slice_index weights.now j) (in_columns columns.old j t))) }
+    requires place { i < parity code.now }
+    requires weights { code.now.k ≤ length weights.now }
+    requires columns { length columns.old ≡ 512 }
+    ensures made { (t : ℕ) → t < code.now.m → in_columns columns.new (code.now.k + i) t ≡ F.ops.sub 0 (sum F.ops code.now.k (λ j. F.ops.mul (slice_index weights.now j) (in_columns columns.old j t))) }
     ensures kept { (j t : ℕ) → j < 64 → (j ≢ code.now.k + i) → in_columns columns.new j t ≡ in_columns columns.old j t }
 {
     let k = code.data_nodes();
@@ -55,10 +55,10 @@ fn set_targets<F: Field>(code: &Code, i: usize, weights: &[u16], columns: &mut [
 
 // The targets of all syndromes go to the parity places.
 fn all_targets<F: Field>(code: &Code, points: &[u16], columns: &mut [u16])
-    requires points_len { length points.now ≡ 64 }
-    requires powers_of { PowersOf ops ops.α points.now }
-    requires columns_len { length columns.old ≡ 512 }
-    ensures made { (i t : ℕ) → i < parity code.now → t < code.now.m → in_columns columns.new (code.now.k + i) t ≡ target ops code.now (in_columns columns.old) i t }
+    requires long { length points.now ≡ 64 }
+    requires powers { PowersOf F.ops F.ops.α points.now }
+    requires columns { length columns.old ≡ 512 }
+    ensures made { (i t : ℕ) → i < parity code.now → t < code.now.m → in_columns columns.new (code.now.k + i) t ≡ target F.ops code.now (in_columns columns.old) i t }
     ensures kept { SameData code.now (in_columns columns.new) (in_columns columns.old) }
 {
     let mut weights = [0u16; 64];
@@ -70,12 +70,12 @@ fn all_targets<F: Field>(code: &Code, points: &[u16], columns: &mut [u16])
 
 // Solves each column for its targets, in its parity places.
 fn solve_all<F: Field>(code: &Code, points: &[u16], columns: &mut [u16])
-    requires points_len { length points.now ≡ 64 }
-    requires powers_of { PowersOf ops ops.α points.now }
-    requires columns_len { length columns.old ≡ 512 }
-    requires by_index { (i t : ℕ) → i < parity code.now → t < code.now.m → in_columns columns.old (code.now.k + i) t < ops.q }
-    ensures reached { (i t : ℕ) → i < parity code.now → t < code.now.m → syndrome ops (parity code.now) (λ v. power ops ops.α (code.now.k + v)) (λ v. in_columns columns.new (code.now.k + v) t) i ≡ in_columns columns.old (code.now.k + i) t }
-    ensures below { (v t : ℕ) → v < parity code.now → t < code.now.m → in_columns columns.new (code.now.k + v) t < ops.q }
+    requires long { length points.now ≡ 64 }
+    requires powers { PowersOf F.ops F.ops.α points.now }
+    requires columns { length columns.old ≡ 512 }
+    requires targets { (i t : ℕ) → i < parity code.now → t < code.now.m → in_columns columns.old (code.now.k + i) t < F.ops.q }
+    ensures reached { (i t : ℕ) → i < parity code.now → t < code.now.m → syndrome F.ops (parity code.now) (λ v. power F.ops F.ops.α (code.now.k + v)) (λ v. in_columns columns.new (code.now.k + v) t) i ≡ in_columns columns.old (code.now.k + i) t }
+    ensures below { (v t : ℕ) → v < parity code.now → t < code.now.m → in_columns columns.new (code.now.k + v) t < F.ops.q }
     ensures kept { SameData code.now (in_columns columns.new) (in_columns columns.old) }
 {
     let k = code.data_nodes();
@@ -88,11 +88,11 @@ fn solve_all<F: Field>(code: &Code, points: &[u16], columns: &mut [u16])
 
 // Fills the scratch memory with the data columns of the file's stripe.
 pub(crate) fn complete<F: Field>(code: &Code, file: &[u16], points: &[u16], columns: &mut [u16])
-    requires file { IsFile ops code.now file.now }
-    requires points_len { length points.now ≡ 64 }
-    requires powers_of { PowersOf ops ops.α points.now }
-    requires columns_len { length columns.old ≡ 512 }
-    ensures { DataColumns ops code.now file.now (in_columns columns.new) }
+    requires file { IsFile F.ops code.now file.now }
+    requires long { length points.now ≡ 64 }
+    requires powers { PowersOf F.ops F.ops.α points.now }
+    requires columns { length columns.old ≡ 512 }
+    ensures { DataColumns F.ops code.now file.now (in_columns columns.new) }
 {
     place_file(code, file, columns);
     all_targets::<F>(code, points, columns);

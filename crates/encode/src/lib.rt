@@ -1,4 +1,6 @@
 // The encoder: the stripe of a file, in memory that the caller lends. Nothing here allocates.
+#![tactic(auto)]
+
 ghost use Rattle.std.specs.Prelude.{◌≡◌, ℕ, ◌+◌, ◌*◌, ◌<◌, ◌≤◌, length};
 ghost use Rattle.code.specs.Refusals.{Least};
 ghost use Rattle.encode.specs.Encoding.{Declined, Encoded};
@@ -21,7 +23,7 @@ pub use sums::column_sum;
 
 // The refusal with the smallest number of those that hold, for a memory of `room` numbers.
 fn due<F: Field>(code: &Code, file: &[u16], room: usize) -> Option<Refusal>
-    ensures { Least (Declined ops code.now file.now room) result }
+    ensures { Least (Declined F.ops code.now file.now room) result }
 {
     if room < code.nodes() * code.columns() {
         return Some(Refusal::Shape);
@@ -39,7 +41,7 @@ fn due<F: Field>(code: &Code, file: &[u16], room: usize) -> Option<Refusal>
 // returns how many they are. The others stay as they are. Declined, all of `cells` does: with 2 if `cells` is
 // shorter, with 3 if the file's length is not k·m, with 6 if one of its numbers is no symbol of the field.
 pub fn encode<F: Field>(code: &Code, file: &[u16], cells: &mut [u16]) -> Result<usize, Refusal>
-    ensures { Encoded ops code.now file.now cells.old result cells.new }
+    ensures { Encoded F.ops code.now file.now cells.old result cells.new }
 {
     if let Some(e) = due::<F>(code, file, cells.len()) {
         return Err(e);
@@ -55,7 +57,7 @@ pub fn encode<F: Field>(code: &Code, file: &[u16], cells: &mut [u16]) -> Result<
 // Whether the first n·(m + a) numbers of `cells` are symbols of the field that keep the column rule and the group
 // rule. Declined with 2 if `cells` is shorter.
 pub fn keeps_rules<F: Field>(code: &Code, cells: &[u16]) -> Result<bool, Refusal>
-    ensures { Judged ops code.now cells.now result }
+    ensures { Judged F.ops code.now cells.now result }
 {
     let count = code.nodes() * code.columns();
     if cells.len() < count {

@@ -38,7 +38,7 @@ fn read_column(code: &Code, cells: &[u16], c: usize, column: &mut [u16])
 
 // Whether the first r column sums are all 0.
 fn sums_vanish<F: Field>(r: usize, column: &[u16]) -> bool
-    ensures { Tells result ((i : ℕ) → i < r → column_sum ops i column.now ≡ 0) }
+    ensures { Tells result ((i : ℕ) → i < r → column_sum F.ops i column.now ≡ 0) }
 {
     for i in 0..r {
         if column_sum::<F>(i, column) != 0 {
@@ -53,7 +53,7 @@ fn column_vanishes<F: Field>(code: &Code, cells: &[u16], t: usize, scratch: &mut
     requires room { cell_count code.now ≤ length cells.now }
     requires column { t < code.now.m }
     requires nodes { length scratch.old ≡ code.now.n }
-    ensures { Tells result (ColumnSums ops code.now (in_memory code.now cells.now) t) }
+    ensures { Tells result (ColumnSums F.ops code.now (in_memory code.now cells.now) t) }
 {
     read_column(code, cells, t, scratch);
     sums_vanish::<F>(code.parity_nodes(), scratch)
@@ -63,7 +63,7 @@ fn column_vanishes<F: Field>(code: &Code, cells: &[u16], t: usize, scratch: &mut
 fn keeps_column<F: Field>(code: &Code, cells: &[u16], t: usize) -> bool
     requires room { cell_count code.now ≤ length cells.now }
     requires column { t < code.now.m }
-    ensures { Tells result (ColumnSums ops code.now (in_memory code.now cells.now) t) }
+    ensures { Tells result (ColumnSums F.ops code.now (in_memory code.now cells.now) t) }
 {
     let n = code.nodes();
     let mut column = [0u16; 64];
@@ -73,7 +73,7 @@ fn keeps_column<F: Field>(code: &Code, cells: &[u16], t: usize) -> bool
 // Whether the memory keeps the column rule.
 pub(crate) fn keeps_columns<F: Field>(code: &Code, cells: &[u16]) -> bool
     requires room { cell_count code.now ≤ length cells.now }
-    ensures { Tells result (ColumnRule ops code.now (in_memory code.now cells.now)) }
+    ensures { Tells result (ColumnRule F.ops code.now (in_memory code.now cells.now)) }
 {
     for t in 0..code.data_columns() {
         if !keeps_column::<F>(code, cells, t) {
@@ -86,11 +86,11 @@ pub(crate) fn keeps_columns<F: Field>(code: &Code, cells: &[u16]) -> bool
 // The weighted sum of the data symbols of group j, for coded column i.
 fn group_total<F: Field>(code: &Code, weights: &[u16], cells: &[u16], j: usize, i: usize) -> u16
     requires weights { length weights.now ≡ 24 }
-    requires weigh { GroupWeights ops code.now weights.now }
+    requires weigh { GroupWeights F.ops code.now weights.now }
     requires room { cell_count code.now ≤ length cells.now }
     requires node { j < code.now.n }
     requires column { i < code.now.a }
-    ensures { result ≡ group_sum ops code.now (in_memory code.now cells.now) j i }
+    ensures { result ≡ group_sum F.ops code.now (in_memory code.now cells.now) j i }
 {
     let n = code.nodes();
     let mut sum = 0;
@@ -107,10 +107,10 @@ fn group_total<F: Field>(code: &Code, weights: &[u16], cells: &[u16], j: usize, 
 // Whether the coded symbols of group j are what the group rule says.
 fn keeps_group<F: Field>(code: &Code, weights: &[u16], cells: &[u16], j: usize) -> bool
     requires weights { length weights.now ≡ 24 }
-    requires weigh { GroupWeights ops code.now weights.now }
+    requires weigh { GroupWeights F.ops code.now weights.now }
     requires room { cell_count code.now ≤ length cells.now }
     requires node { j < code.now.n }
-    ensures { Tells result (GroupSums ops code.now (in_memory code.now cells.now) j) }
+    ensures { Tells result (GroupSums F.ops code.now (in_memory code.now cells.now) j) }
 {
     let m = code.data_columns();
     for i in 0..code.coded_columns() {
@@ -125,7 +125,7 @@ fn keeps_group<F: Field>(code: &Code, weights: &[u16], cells: &[u16], j: usize) 
 // Whether the memory keeps the group rule.
 pub(crate) fn keeps_groups<F: Field>(code: &Code, cells: &[u16]) -> bool
     requires room { cell_count code.now ≤ length cells.now }
-    ensures { Tells result (GroupRule ops code.now (in_memory code.now cells.now)) }
+    ensures { Tells result (GroupRule F.ops code.now (in_memory code.now cells.now)) }
 {
     let mut points = [0u16; 64];
     powers::<F>(F::alpha(), &mut points);

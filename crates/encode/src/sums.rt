@@ -8,8 +8,8 @@ use field::Field;
 
 // Whether every number of the slice is a symbol of the field.
 pub(crate) fn all_symbols<F: Field>(xs: &[u16]) -> bool
-    ensures yes { result ≡ true → AllBelow ops.q xs.now }
-    ensures not { result ≡ false → (p : ℕ) × (p < length xs.now) × (ops.q ≤ slice_index xs.now p) }
+    ensures yes { result ≡ true → AllBelow F.ops.q xs.now }
+    ensures not { result ≡ false → (p : ℕ) × (p < length xs.now) × (F.ops.q ≤ slice_index xs.now p) }
 {
     let q = F::order();
     for x in xs.iter() {
@@ -22,7 +22,7 @@ pub(crate) fn all_symbols<F: Field>(xs: &[u16]) -> bool
 
 // Fills the slice with the powers of a symbol: number j is base^j.
 pub(crate) fn powers<F: Field>(base: u16, out: &mut [u16])
-    ensures { (j : ℕ) → j < length out.new → slice_index out.new j ≡ power ops base j }
+    ensures { (j : ℕ) → j < length out.new → slice_index out.new j ≡ power F.ops base j }
 {
     let mut p = 1;
     for x in out.iter_mut() {
@@ -34,7 +34,7 @@ pub(crate) fn powers<F: Field>(base: u16, out: &mut [u16])
 // The sum over the column's symbols of weights[j] · column[j].
 pub(crate) fn weighted_sum<F: Field>(weights: &[u16], column: &[u16]) -> u16
     requires { length column.now ≤ length weights.now }
-    ensures { result ≡ sum ops (length column.now) (λ j. ops.mul (slice_index weights.now j) (slice_index column.now j)) }
+    ensures { result ≡ sum F.ops (length column.now) (λ j. F.ops.mul (slice_index weights.now j) (slice_index column.now j)) }
 {
     let mut sum = 0;
     for (j, x) in column.iter().enumerate() {
@@ -45,7 +45,7 @@ pub(crate) fn weighted_sum<F: Field>(weights: &[u16], column: &[u16]) -> u16
 
 // The sum over the column's symbols of α^(i·j) · column[j], with j the symbol's place.
 pub fn column_sum<F: Field>(i: usize, column: &[u16]) -> u16
-    ensures { result ≡ column_sum ops i column.now }
+    ensures { result ≡ column_sum F.ops i column.now }
 {
     let step = field::power::<F>(F::alpha(), i);
     let mut weight = 1;

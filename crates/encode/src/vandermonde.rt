@@ -8,7 +8,7 @@ use field::Field;
 // Targets for the points without the first one, z: each target but the first loses z times the one before it.
 fn reduce<F: Field>(z: u16, targets: &mut [u16])
     ensures first { slice_index targets.new 0 ≡ slice_index targets.old 0 }
-    ensures rest { (i : ℕ) → i + 1 < length targets.old → slice_index targets.new (i + 1) ≡ ops.sub (slice_index targets.old (i + 1)) (ops.mul z (slice_index targets.old i)) }
+    ensures rest { (i : ℕ) → i + 1 < length targets.old → slice_index targets.new (i + 1) ≡ F.ops.sub (slice_index targets.old (i + 1)) (F.ops.mul z (slice_index targets.old i)) }
 {
     for i in (1..targets.len()).rev() {
         targets[i] = F::difference(targets[i], F::product(z, targets[i - 1]));
@@ -18,12 +18,12 @@ fn reduce<F: Field>(z: u16, targets: &mut [u16])
 // From a solution for the points without the first one: each of its symbols is divided by the difference of its
 // point and the first, and what they sum up to is taken from the first target.
 fn lift<F: Field>(points: &[u16], targets: &mut [u16])
-    requires points_len { length points.now ≡ length targets.old }
-    requires targets_nonzero { 0 < length targets.old }
-    requires targets_bound { slice_index targets.old 0 < ops.q }
-    ensures rest { (v : ℕ) → v + 1 < length targets.old → slice_index targets.new (v + 1) ≡ ops.mul (slice_index targets.old (v + 1)) (ops.inv (ops.sub (slice_index points.now (v + 1)) (slice_index points.now 0))) }
-    ensures sums { sum ops (length targets.old) (λ v. slice_index targets.new v) ≡ slice_index targets.old 0 }
-    ensures below { slice_index targets.new 0 < ops.q }
+    requires long { length points.now ≡ length targets.old }
+    requires some { 0 < length targets.old }
+    requires target { slice_index targets.old 0 < F.ops.q }
+    ensures rest { (v : ℕ) → v + 1 < length targets.old → slice_index targets.new (v + 1) ≡ F.ops.mul (slice_index targets.old (v + 1)) (F.ops.inv (F.ops.sub (slice_index points.now (v + 1)) (slice_index points.now 0))) }
+    ensures sums { sum F.ops (length targets.old) (λ v. slice_index targets.new v) ≡ slice_index targets.old 0 }
+    ensures below { slice_index targets.new 0 < F.ops.q }
 {
     let mut first = targets[0];
     for v in 1..targets.len() {
@@ -38,11 +38,11 @@ fn lift<F: Field>(points: &[u16], targets: &mut [u16])
 // `targets` are what stood there. It takes about as many products as the square of the number of points.
 pub(crate) fn solve<F: Field>(points: &[u16], targets: &mut [u16])
     requires long { length points.now ≡ length targets.old }
-    requires points { AllBelow ops.q points.now }
+    requires points { AllBelow F.ops.q points.now }
     requires differ { AllDiffer points.now }
-    requires targets { AllBelow ops.q targets.old }
-    ensures reached { Reaches ops points.now targets.old targets.new }
-    ensures below { AllBelow ops.q targets.new }
+    requires targets { AllBelow F.ops.q targets.old }
+    ensures reached { Reaches F.ops points.now targets.old targets.new }
+    ensures below { AllBelow F.ops.q targets.new }
 {
     if points.len() == 0 {
         return;

@@ -1,5 +1,7 @@
 // Measures the encoder against a straightforward one that fills in each column by plain Gaussian elimination.
 // Standard output says only whether both write the same; the times, which differ from run to run, go to standard error.
+#![tactic(auto)]
+
 use code::Code;
 use encode::encode;
 use field::{Bytes, Field, Prime, power};

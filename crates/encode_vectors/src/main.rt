@@ -1,4 +1,6 @@
 // Tries the encoder on worked values, and recomputes both rules on what it writes by plain loops of its own.
+#![tactic(auto)]
+
 ghost use Rattle.std.specs.Prelude.{◌≤◌};
 
 use code::Code;

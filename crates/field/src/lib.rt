@@ -1,4 +1,6 @@
 // Finite fields whose symbols are the numbers below their size, at most 65,536.
+#![tactic(auto)]
+
 ghost use Rattle.std.specs.Prelude.{◌≡◌};
 ghost use Rattle.field.specs.Laws.{Laws, Operations, power, symbol};
 
@@ -53,7 +55,7 @@ fn operand(size: u16, u: u16) -> u16
 
 // u to the power e, by squaring; the power 0 is 1, also of 0.
 pub fn power<F: Field>(u: u16, e: usize) -> u16
-    ensures { result ≡ power ops u e }
+    ensures { result ≡ power F.ops u e }
 {
     let mut result = 1;
     let mut base = u;

@@ -1,4 +1,6 @@
 // Tries the two fields on worked values, and compares them with slow computations that share no code with them.
+#![tactic(auto)]
+
 ghost use Rattle.std.specs.Prelude.{◌<◌};
 
 use field::{Bytes, Field, Prime, power};

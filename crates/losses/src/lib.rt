@@ -1,5 +1,7 @@
 // Which losses of whole nodes a stripe survives. Each function computes nothing: its contract is a
 // theorem, for every field that keeps the laws and every code.
+#![tactic(auto)]
+
 ghost use Rattle.losses.specs.Losses.{AnyNodesLost, AnyNodesLostSharper, NoMoreNodes};
 
 // Any r + a nodes may be lost where n > (r + a)·max(m, a − 1), and also where only n > (r + a)·m.

@@ -1,4 +1,6 @@
 // Rebuilding the cells of one node from cells of other nodes, symbol by symbol.
+#![tactic(auto)]
+
 ghost use Rattle.std.specs.Prelude.{◌≡◌, ℕ, ◌+◌, ◌-◌, ◌*◌, ◌<◌, ◌≤◌};
 ghost use Rattle.round.specs.Wanted.{wanted, α_power};
 ghost use Rattle.round.specs.Round.{nodes_asked, EveryRound};
@@ -17,7 +19,7 @@ pub use whole::rebuild;
 impl<F: Field> Wanting<F> {
     // The round for a node of the code; refusal 5 where the node is outside.
     pub fn begin(code: &Code, node: usize) -> Result<Wanting<F>, Refusal>
-        ensures { Begun F.Field.ops code.now node result }
+        ensures { Begun F.ops code.now node result }
     {
         if node >= code.nodes() {
             return Err(Refusal::Outside);
@@ -65,7 +67,7 @@ impl<F: Field> Wanting<F> {
     // Gives the symbol of the wanted cell. A number that is no symbol of the field is declined with
     // refusal 6, and the round comes back.
     pub fn give(self, symbol: u16) -> Result<Given<F>, Declined<F>>
-        ensures { Gives F.Field.ops self symbol result }
+        ensures { Gives F.ops self symbol result }
     {
         if u32::from(symbol) >= F::order() {
             return Err(Declined {
@@ -109,10 +111,10 @@ impl<F: Field> Wanting<F> {
         ensures first { self.now.place ≡ 0 → result ≡ symbol }
         ensures data { 0 < self.now.place
             → self.now.column < self.now.code.m
-            → result ≡ F.Field.ops.sub self.now.made symbol }
+            → result ≡ F.ops.sub self.now.made symbol }
         ensures coded { 0 < self.now.place
             → self.now.code.m ≤ self.now.column
-            → result ≡ F.Field.ops.add self.now.made (F.Field.ops.mul self.now.weight symbol) }
+            → result ≡ F.ops.add self.now.made (F.ops.mul self.now.weight symbol) }
     {
         if self.place == 0 {
             symbol
@@ -148,7 +150,7 @@ impl<F: Field> Holding<F> {
 
     // Hands over the finished symbol. The round goes on with the next column, or is over.
     pub fn take(self) -> (u16, Taken<F>)
-        ensures { Takes F.Field.ops self result }
+        ensures { Takes F.ops self result }
     {
         let Holding {
             code,
@@ -197,8 +199,8 @@ pub fn nodes_asked(code: &Code) -> usize
 
 // A power of the generator, as many exponents higher.
 fn raised<F: Field>(power: u16, by: usize) -> u16
-    ensures { (e : ℕ) → power ≡ α_power F.Field.ops e
-        → result ≡ α_power F.Field.ops (e + by) }
+    ensures { (e : ℕ) → power ≡ α_power F.ops e
+        → result ≡ α_power F.ops (e + by) }
 {
     let mut raised = power;
     for _i in 0..by {

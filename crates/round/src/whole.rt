@@ -22,9 +22,9 @@ pub fn rebuild<F: Field>(
     cells: &[u16],
     out: &mut [u16],
 ) -> Result<usize, Refusal>
-    ensures made { Rebuilds F.Field.ops code.now node cells.now
+    ensures made { Rebuilds F.ops code.now node cells.now
         out.old out.new result }
-    ensures stripe { OfStripe F.Field.ops code.now node cells.now
+    ensures stripe { OfStripe F.ops code.now node cells.now
         out.old out.new result }
 {
     let columns = code.columns();
@@ -45,8 +45,8 @@ fn fill_column<F: Field>(
 ) -> Result<Holding<F>, Refusal>
     requires columns { columns ≡ width round.code }
     requires long { round.code.n * columns ≤ length cells.now }
-    requires so_far { Fetching F.Field.ops round.code round.node cells.now round }
-    ensures { Fills F.Field.ops round.code round.node cells.now round.column result }
+    requires so_far { Fetching F.ops round.code round.node cells.now round }
+    ensures { Fills F.ops round.code round.node cells.now round.column result }
 {
     loop {
         let (node, column) = round.wanted();
@@ -68,8 +68,8 @@ fn run<F: Field>(
 ) -> Result<(usize, [u16; COLUMNS]), Refusal>
     requires columns { columns ≡ width round.code }
     requires long { round.code.n * columns ≤ length cells.now }
-    requires begun { Wants F.Field.ops round.code round.node [] round }
-    ensures { Runs F.Field.ops round.code round.node cells.now result }
+    requires begun { Wants F.ops round.code round.node [] round }
+    ensures { Runs F.ops round.code round.node cells.now result }
 {
     let mut symbols = [0; COLUMNS];
     loop {

@@ -17,7 +17,7 @@ pub(crate) fn gather<F: Field, S: Store>(
     cells: &mut [u32],
 ) -> Result<usize, Refusal>
     requires { length cells.old ≡ 704 }
-    ensures { Gathered F.Field.ops code.now (S.Store.meaning store.now).cell cells.new result }
+    ensures { Gathered F.ops code.now (S.meaning store.now).cell cells.new result }
 {
     let columns = code.columns();
     let count = code.nodes() * columns;

@@ -12,10 +12,10 @@ use field::{Field, power};
 
 // Encodes the file that is 1 at data node j, column 0, and 0 elsewhere.
 fn encode_unit<F: Field>(code: &Code, j: usize, file: &mut [u16], cells: &mut [u16])
-    requires j_lt_k { j < code.now.k }
-    requires file_len { length file.old ≡ code.now.k * code.now.m }
-    requires cells_len { length cells.old ≡ 704 }
-    ensures { IsFactor ops code.now (j * code.now.m) (in_memory code.now cells.new) }
+    requires node { j < code.now.k }
+    requires file { length file.old ≡ code.now.k * code.now.m }
+    requires cells { length cells.old ≡ 704 }
+    ensures { IsFactor F.ops code.now (j * code.now.m) (in_memory code.now cells.new) }
 {
     file.fill(0);
     file[j * code.data_columns()] = 1;
@@ -30,11 +30,11 @@ fn unit_column<F: Field>(
     cells: &mut [u16],
     table: &mut [u16],
 )
-    requires j_lt_k { j < code.now.k }
-    requires file_len { length file.old ≡ code.now.k * code.now.m }
-    requires cells_len { length cells.old ≡ 704 }
-    requires table_len { length table.old ≡ 4096 }
-    ensures made { ColumnOf ops code.now j table.new }
+    requires node { j < code.now.k }
+    requires file { length file.old ≡ code.now.k * code.now.m }
+    requires cells { length cells.old ≡ 704 }
+    requires table { length table.old ≡ 4096 }
+    ensures made { ColumnOf F.ops code.now j table.new }
     ensures kept { (v i : ℕ) → i < 64 → (i ≢ j) → slice_index table.new (v * 64 + i) ≡ slice_index table.old (v * 64 + i) }
 {
     encode_unit::<F>(code, j, file, cells);
@@ -54,7 +54,7 @@ pub(crate) fn column_table<F: Field>(
     requires file { length file.old ≡ code.now.k * code.now.m }
     requires cells { length cells.old ≡ 704 }
     requires table { length table.old ≡ 4096 }
-    ensures { ColumnTable ops code.now table.new }
+    ensures { ColumnTable F.ops code.now table.new }
 {
     for j in 0..code.data_nodes() {
         unit_column::<F>(code, j, file, cells, table);
@@ -63,10 +63,10 @@ pub(crate) fn column_table<F: Field>(
 
 // How cell (v, c) depends on the symbols of data column t: by the cell (w, t) of that column, times a symbol.
 fn weight<F: Field>(code: &Code, v: usize, c: usize, t: usize) -> (usize, u32)
-    requires v_lt_n { v < code.now.n }
-    requires c_bound { c < width code.now }
-    requires t_lt_m { t < code.now.m }
-    ensures { Weight ops code.now v c t result.0 result.1 }
+    requires node { v < code.now.n }
+    requires column { c < width code.now }
+    requires data_column { t < code.now.m }
+    ensures { Weight F.ops code.now v c t result.0 result.1 }
 {
     let m = code.data_columns();
     if c < m {
@@ -86,11 +86,11 @@ fn put_factors<F: Field>(
     t: usize,
     row: &mut [u32],
 )
-    requires w_lt_n { w < code.now.n }
-    requires t_lt_m { t < code.now.m }
-    requires table_len { length table.now ≡ 4096 }
-    requires m_in_bounds { code.now.k * code.now.m ≤ length row.old }
-    ensures made { (j : ℕ) → j < code.now.k → slice_index row.new (j * code.now.m + t) ≡ ops.mul scale (slice_index table.now (w * 64 + j)) }
+    requires node { w < code.now.n }
+    requires data_column { t < code.now.m }
+    requires table { length table.now ≡ 4096 }
+    requires row { code.now.k * code.now.m ≤ length row.old }
+    ensures made { (j : ℕ) → j < code.now.k → slice_index row.new (j * code.now.m + t) ≡ F.ops.mul scale (slice_index table.now (w * 64 + j)) }
     ensures kept { (i : ℕ) → ((j : ℕ) → j < code.now.k → i ≢ j * code.now.m + t) → slice_index row.new i ≡ slice_index row.old i }
 {
     let m = code.data_columns();
@@ -111,9 +111,9 @@ pub(crate) fn equation<F: Field>(
     requires node { v < code.now.n }
     requires column { c < width code.now }
     requires long { length table.now ≡ 4096 }
-    requires table { ColumnTable ops code.now table.now }
+    requires table { ColumnTable F.ops code.now table.now }
     requires row { length row.old ≡ code.now.k * code.now.m + 1 }
-    ensures { IsEquation ops code.now v c value row.new }
+    ensures { IsEquation F.ops code.now v c value row.new }
 {
     for t in 0..code.data_columns() {
         let (w, scale) = weight::<F>(code, v, c, t);

@@ -1,6 +1,8 @@
 // What the cells that are present determine: the symbol that all fitting files share, or that no file fits, or that
 // two fitting files differ. A file fits if its stripe agrees with every present cell; any cells may be lost, and the
 // present ones need not come from a stripe. Nothing here allocates: the caller lends the work memory.
+#![tactic(auto)]
+
 ghost use Rattle.std.specs.Prelude.{◌≡◌, ℕ, ◌+◌, ◌*◌, ◌<◌, ◌≤◌, length};
 ghost use Rattle.code.specs.Work.{WorkAfter, front};
 ghost use Rattle.solve.specs.Answers.{SharedSymbol, OnlyFile};
@@ -29,7 +31,7 @@ pub fn shared_symbol<F: Field, S: Store>(
     column: usize,
     work: &mut [u32],
 ) -> Result<u16, Refusal>
-    ensures answer { SharedSymbol F.Field.ops code.now (S.Store.meaning store.now).cell row column (length work.old) result }
+    ensures answer { SharedSymbol F.ops code.now (S.meaning store.now).cell row column (length work.old) result }
     ensures work { WorkAfter code.now work.old result work.new }
 {
     let n = code.file_length();
@@ -54,7 +56,7 @@ pub fn only_file<F: Field, S: Store>(
     store: &S,
     work: &mut [u32],
 ) -> Result<usize, Refusal>
-    ensures { OnlyFile F.Field.ops code.now (S.Store.meaning store.now).cell work.old result work.new }
+    ensures { OnlyFile F.ops code.now (S.meaning store.now).cell work.old result work.new }
 {
     let n = code.file_length();
     let size = n * (n + 1);

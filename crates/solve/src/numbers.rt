@@ -13,19 +13,19 @@ fn operand(x: u32) -> u16
 }
 
 pub(crate) fn times<F: Field>(u: u32, v: u32) -> u32
-    ensures { result ≡ ops.mul u v }
+    ensures { result ≡ F.ops.mul u v }
 {
     u32::from(F::product(operand(u), operand(v)))
 }
 
 pub(crate) fn minus<F: Field>(u: u32, v: u32) -> u32
-    ensures { result ≡ ops.sub u v }
+    ensures { result ≡ F.ops.sub u v }
 {
     u32::from(F::difference(operand(u), operand(v)))
 }
 
 pub(crate) fn inverse<F: Field>(u: u32) -> u32
-    ensures { result ≡ ops.inv u }
+    ensures { result ≡ F.ops.inv u }
 {
     u32::from(F::inverse(operand(u)))
 }

@@ -15,10 +15,10 @@ use store::Store;
 // Brings the system of the listed cells into work memory; `false` where they contradict one another.
 fn build<F: Field>(code: &Code, cells: &[u32], work: &mut [u32]) -> bool
     requires cells { length cells.now ≡ 704 }
-    requires symbols { (x : ℕ) → x < cell_count code.now → slice_index cells.now x < 65536 → slice_index cells.now x < ops.q }
+    requires symbols { (x : ℕ) → x < cell_count code.now → slice_index cells.now x < 65536 → slice_index cells.now x < F.ops.q }
     requires front { length work.old ≡ front code.now }
-    ensures all { result ≡ true → Complete ops code.now cells.now work.new }
-    ensures none { result ≡ false → NoneMeets ops code.now cells.now }
+    ensures all { result ≡ true → Complete F.ops code.now cells.now work.new }
+    ensures none { result ≡ false → NoneMeets F.ops code.now cells.now }
 {
     let n = code.file_length();
     let mut table = [0u16; 4096];
@@ -39,7 +39,7 @@ pub(crate) fn solve<F: Field, S: Store>(
     work: &mut [u32],
 ) -> Result<usize, Refusal>
     requires { length work.old ≡ front code.now }
-    ensures { Built F.Field.ops code.now (S.Store.meaning store.now).cell work.new result }
+    ensures { Built F.ops code.now (S.meaning store.now).cell work.new result }
 {
     let mut cells = [0u32; 704];
     gather::<F, S>(code, store, &mut cells)?;
@@ -51,9 +51,9 @@ pub(crate) fn solve<F: Field, S: Store>(
 
 // The right side of the equation of symbol p, if it has no other factor than that at p.
 pub(crate) fn lone(work: &[u32], n: usize, p: usize) -> Option<u32>
-    requires n_bound { n < 505 }
-    requires p_lt_n { p < n }
-    requires work_len { length work.now ≡ n * (n + 1) }
+    requires size { n < 505 }
+    requires symbol { p < n }
+    requires front { length work.now ≡ n * (n + 1) }
     ensures { Lone n (entry n work.now) p result }
 {
     let a = p * (n + 1);
@@ -75,9 +75,9 @@ pub(crate) fn decide<F: Field, S: Store>(
     place: usize,
     work: &mut [u32],
 ) -> Result<u16, Refusal>
-    requires work_len { length work.old ≡ front code.now }
-    requires place_bound { place < code.now.k * code.now.m }
-    ensures { Decided F.Field.ops code.now (S.Store.meaning store.now).cell place result }
+    requires front { length work.old ≡ front code.now }
+    requires place { place < code.now.k * code.now.m }
+    ensures { Decided F.ops code.now (S.meaning store.now).cell place result }
 {
     let n = solve::<F, S>(code, store, work)?;
     match lone(work, n, place) {
@@ -88,8 +88,8 @@ pub(crate) fn decide<F: Field, S: Store>(
 
 // Whether every symbol's equation has no other factor than its own.
 fn all_lone(work: &[u32], n: usize) -> bool
-    requires n_bound { n < 505 }
-    requires work_len { length work.now ≡ n * (n + 1) }
+    requires size { n < 505 }
+    requires front { length work.now ≡ n * (n + 1) }
     ensures yes { result ≡ true → (p : ℕ) → p < n → Lone n (entry n work.now) p (Some (entry n work.now p n)) }
     ensures not { result ≡ false → (p : ℕ) × (p < n) × Lone n (entry n work.now) p None }
 {
@@ -103,8 +103,8 @@ fn all_lone(work: &[u32], n: usize) -> bool
 
 // Moves the right sides of the equations to the front of work memory.
 fn move_right_sides(work: &mut [u32], n: usize)
-    requires n_bound { n < 505 }
-    requires work_len { length work.old ≡ n * (n + 1) }
+    requires size { n < 505 }
+    requires front { length work.old ≡ n * (n + 1) }
     ensures moved { (p : ℕ) → p < n → slice_index work.new p ≡ entry n work.old p n }
 {
     for p in 0..n {
@@ -129,7 +129,7 @@ pub(crate) fn find_only<F: Field, S: Store>(
     work: &mut [u32],
 ) -> Result<usize, Refusal>
     requires { length work.old ≡ front code.now }
-    ensures { OnlyDecided F.Field.ops code.now (S.Store.meaning store.now).cell work.new result }
+    ensures { OnlyDecided F.ops code.now (S.meaning store.now).cell work.new result }
 {
     let n = solve::<F, S>(code, store, work)?;
     if !all_lone(work, n) {

@@ -7,7 +7,7 @@ use field::Field;
 
 // Multiplies each number of a row.
 fn scale<F: Field>(row: &mut [u32], by: u32)
-    ensures { (c : ℕ) → c < length row.old → slice_index row.new c ≡ ops.mul by (slice_index row.old c) }
+    ensures { (c : ℕ) → c < length row.old → slice_index row.new c ≡ F.ops.mul by (slice_index row.old c) }
 {
     for x in row.iter_mut() {
         *x = times::<F>(by, *x);
@@ -16,10 +16,10 @@ fn scale<F: Field>(row: &mut [u32], by: u32)
 
 // Multiplies row s.
 pub(crate) fn scale_row<F: Field>(work: &mut [u32], width: usize, s: usize, by: u32)
-    requires s_bound { s < 504 }
-    requires width_bound { width < 506 }
-    requires width_in_bounds { s * width + width ≤ length work.old }
-    ensures { RowIs width s (λ c. ops.mul by (slice_index work.old (s * width + c))) work.old work.new }
+    requires row { s < 504 }
+    requires narrow { width < 506 }
+    requires inside { s * width + width ≤ length work.old }
+    ensures { RowIs width s (λ c. F.ops.mul by (slice_index work.old (s * width + c))) work.old work.new }
 {
     let a = s * width;
     scale::<F>(&mut work[a..a + width], by);
@@ -27,13 +27,13 @@ pub(crate) fn scale_row<F: Field>(work: &mut [u32], width: usize, s: usize, by: 
 
 // Takes `by` times row p from row s.
 pub(crate) fn subtract_row<F: Field>(work: &mut [u32], width: usize, s: usize, p: usize, by: u32)
-    requires s_bound { s < 504 }
-    requires p_bound { p < 504 }
-    requires s_nonzero { s ≢ p }
-    requires width_bound { width < 506 }
-    requires width_in_bounds { s * width + width ≤ length work.old }
-    requires width_in_bounds_2 { p * width + width ≤ length work.old }
-    ensures { RowIs width s (λ c. ops.sub (slice_index work.old (s * width + c)) (ops.mul by (slice_index work.old (p * width + c)))) work.old work.new }
+    requires row { s < 504 }
+    requires other { p < 504 }
+    requires differ { s ≢ p }
+    requires narrow { width < 506 }
+    requires inside { s * width + width ≤ length work.old }
+    requires other_inside { p * width + width ≤ length work.old }
+    ensures { RowIs width s (λ c. F.ops.sub (slice_index work.old (s * width + c)) (F.ops.mul by (slice_index work.old (p * width + c)))) work.old work.new }
 {
     for c in 0..width {
         work[s * width + c] = minus::<F>(work[s * width + c], times::<F>(by, work[p * width + c]));
@@ -42,10 +42,10 @@ pub(crate) fn subtract_row<F: Field>(work: &mut [u32], width: usize, s: usize, p
 
 // Puts a row of as many numbers as the width in place of row s.
 pub(crate) fn put_row(work: &mut [u32], width: usize, s: usize, row: &[u32])
-    requires s_bound { s < 504 }
-    requires width_bound { width < 506 }
-    requires width_in_bounds { width ≤ length row.now }
-    requires width_in_bounds_2 { s * width + width ≤ length work.old }
+    requires row { s < 504 }
+    requires narrow { width < 506 }
+    requires long { width ≤ length row.now }
+    requires inside { s * width + width ≤ length work.old }
     ensures { RowIs width s (λ c. slice_index row.now c) work.old work.new }
 {
     for c in 0..width {
@@ -55,10 +55,10 @@ pub(crate) fn put_row(work: &mut [u32], width: usize, s: usize, row: &[u32])
 
 // The next equation, from a given place on, whose factor at the symbol is not 0. There are width − 1 equations.
 pub(crate) fn next_usable(work: &[u32], width: usize, symbol: usize, from: usize) -> Option<usize>
-    requires width_nonzero { 0 < width }
-    requires width_bound { width < 506 }
-    requires symbol_lt_width { symbol < width }
-    requires work_len { length work.now ≡ (width - 1) * width }
+    requires some { 0 < width }
+    requires narrow { width < 506 }
+    requires symbol { symbol < width }
+    requires front { length work.now ≡ (width - 1) * width }
     ensures { Usable width (width - 1) symbol from work.now result }
 {
     for s in from..width - 1 {

@@ -8,12 +8,12 @@ use field::Field;
 
 // Takes symbol c out of every equation but the one that is kept for it, whose factor there is 1.
 fn eliminate<F: Field>(work: &mut [u32], n: usize, c: usize)
-    requires n_bound { n < 505 }
-    requires c_lt_n { c < n }
-    requires work_len { length work.old ≡ n * (n + 1) }
-    requires by_index { (p j : ℕ) → p < n → j < n + 1 → entry n work.old p j < ops.q }
+    requires size { n < 505 }
+    requires symbol { c < n }
+    requires front { length work.old ≡ n * (n + 1) }
+    requires below { (p j : ℕ) → p < n → j < n + 1 → entry n work.old p j < F.ops.q }
     ensures kept { (j : ℕ) → j < n + 1 → entry n work.new c j ≡ entry n work.old c j }
-    ensures others { (p j : ℕ) → p < n → j < n + 1 → (p ≢ c) → entry n work.new p j ≡ ops.sub (entry n work.old p j) (ops.mul (entry n work.old p c) (entry n work.old c j)) }
+    ensures others { (p j : ℕ) → p < n → j < n + 1 → (p ≢ c) → entry n work.new p j ≡ F.ops.sub (entry n work.old p j) (F.ops.mul (entry n work.old p c) (entry n work.old c j)) }
 {
     let width = n + 1;
     let mut from = 0;
@@ -28,12 +28,12 @@ fn eliminate<F: Field>(work: &mut [u32], n: usize, c: usize)
 
 // Makes the row, divided by its factor at c, the equation of symbol c.
 fn install<F: Field>(work: &mut [u32], n: usize, c: usize, row: &[u32])
-    requires n_bound { n < 505 }
-    requires c_lt_n { c < n }
-    requires work_len { length work.old ≡ n * (n + 1) }
-    requires row_len { length row.now ≡ n + 1 }
-    requires by_index { (p j : ℕ) → p < n → j < n + 1 → entry n work.old p j < ops.q }
-    ensures { Installed ops n c (λ j. slice_index row.now j) (entry n work.old) (entry n work.new) }
+    requires size { n < 505 }
+    requires symbol { c < n }
+    requires front { length work.old ≡ n * (n + 1) }
+    requires row { length row.now ≡ n + 1 }
+    requires below { (p j : ℕ) → p < n → j < n + 1 → entry n work.old p j < F.ops.q }
+    ensures { Installed F.ops n c (λ j. slice_index row.now j) (entry n work.old) (entry n work.new) }
 {
     put_row(work, n + 1, c, row);
     scale_row::<F>(work, n + 1, c, inverse::<F>(row[c]));
@@ -43,7 +43,7 @@ fn install<F: Field>(work: &mut [u32], n: usize, c: usize, row: &[u32])
 // Takes a multiple of one row from another.
 fn subtract_from<F: Field>(row: &mut [u32], other: &[u32], by: u32)
     requires { length row.old ≡ length other.now }
-    ensures { (c : ℕ) → c < length row.old → slice_index row.new c ≡ ops.sub (slice_index row.old c) (ops.mul by (slice_index other.now c)) }
+    ensures { (c : ℕ) → c < length row.old → slice_index row.new c ≡ F.ops.sub (slice_index row.old c) (F.ops.mul by (slice_index other.now c)) }
 {
     for (c, x) in row.iter_mut().enumerate() {
         *x = minus::<F>(*x, times::<F>(by, other[c]));
@@ -52,14 +52,14 @@ fn subtract_from<F: Field>(row: &mut [u32], other: &[u32], by: u32)
 
 // Takes symbol p out of a row by the equation of p. Where p is known, only the right side has more to change.
 fn take_out<F: Field>(work: &[u32], n: usize, known: &[bool], p: usize, row: &mut [u32])
-    requires n_bound { n < 505 }
-    requires p_lt_n { p < n }
-    requires work_len { length work.now ≡ n * (n + 1) }
-    requires row_len { length row.old ≡ n + 1 }
-    requires n_in_bounds { n ≤ length known.now }
-    requires known_rows { KnownRows n known.now (entry n work.now) }
-    requires by_index { (c : ℕ) → c < n + 1 → slice_index row.old c < ops.q }
-    ensures { (c : ℕ) → c < n + 1 → slice_index row.new c ≡ ops.sub (slice_index row.old c) (ops.mul (slice_index row.old p) (entry n work.now p c)) }
+    requires size { n < 505 }
+    requires symbol { p < n }
+    requires front { length work.now ≡ n * (n + 1) }
+    requires row { length row.old ≡ n + 1 }
+    requires known { n ≤ length known.now }
+    requires marked { KnownRows n known.now (entry n work.now) }
+    requires below { (c : ℕ) → c < n + 1 → slice_index row.old c < F.ops.q }
+    ensures { (c : ℕ) → c < n + 1 → slice_index row.new c ≡ F.ops.sub (slice_index row.old c) (F.ops.mul (slice_index row.old p) (entry n work.now p c)) }
 {
     let a = p * (n + 1);
     let by = row[p];
@@ -73,14 +73,14 @@ fn take_out<F: Field>(work: &[u32], n: usize, known: &[bool], p: usize, row: &mu
 
 // Takes every symbol that has an equation out of a row.
 fn reduce<F: Field>(work: &[u32], n: usize, known: &[bool], row: &mut [u32])
-    requires n_bound { n < 505 }
-    requires work_len { length work.now ≡ n * (n + 1) }
-    requires row_len { length row.old ≡ n + 1 }
-    requires n_in_bounds { n ≤ length known.now }
-    requires known_rows { KnownRows n known.now (entry n work.now) }
-    requires reduced { Reduced ops n (entry n work.now) }
-    requires by_index { (c : ℕ) → c < n + 1 → slice_index row.old c < ops.q }
-    ensures { Remainder ops n (entry n work.now) (λ c. slice_index row.old c) (λ c. slice_index row.new c) }
+    requires size { n < 505 }
+    requires front { length work.now ≡ n * (n + 1) }
+    requires row { length row.old ≡ n + 1 }
+    requires known { n ≤ length known.now }
+    requires marked { KnownRows n known.now (entry n work.now) }
+    requires reduced { Reduced F.ops n (entry n work.now) }
+    requires below { (c : ℕ) → c < n + 1 → slice_index row.old c < F.ops.q }
+    ensures { Remainder F.ops n (entry n work.now) (λ c. slice_index row.old c) (λ c. slice_index row.new c) }
 {
     for p in 0..n {
         if work[p * (n + 1) + p] != 0 && row[p] != 0 {
@@ -109,9 +109,9 @@ pub(crate) fn absorb<F: Field>(work: &mut [u32], n: usize, known: &[bool], row: 
     requires row { length row.old ≡ n + 1 }
     requires known { n ≤ length known.now }
     requires marked { KnownRows n known.now (entry n work.old) }
-    requires reduced { Reduced ops n (entry n work.old) }
-    requires below { (c : ℕ) → c < n + 1 → slice_index row.old c < ops.q }
-    ensures { Absorbed ops n known.now (λ c. slice_index row.old c) (entry n work.old) result (entry n work.new) }
+    requires reduced { Reduced F.ops n (entry n work.old) }
+    requires below { (c : ℕ) → c < n + 1 → slice_index row.old c < F.ops.q }
+    ensures { Absorbed F.ops n known.now (λ c. slice_index row.old c) (entry n work.old) result (entry n work.new) }
 {
     reduce::<F>(work, n, known, row);
     match first_factor(row, n) {

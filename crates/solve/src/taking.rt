@@ -44,15 +44,15 @@ fn take_cell<F: Field>(
 ) -> bool
     requires cells { length cells.now ≡ 704 }
     requires inside { x < cell_count code.now }
-    requires symbol { slice_index cells.now x < 65536 → slice_index cells.now x < ops.q }
+    requires symbol { slice_index cells.now x < 65536 → slice_index cells.now x < F.ops.q }
     requires long { length table.now ≡ 4096 }
-    requires table { ColumnTable ops code.now table.now }
+    requires table { ColumnTable F.ops code.now table.now }
     requires marks { length known.now ≡ 504 }
     requires row { length row.old ≡ code.now.k * code.now.m + 1 }
     requires front { length work.old ≡ code.now.k * code.now.m * (code.now.k * code.now.m + 1) }
     requires marked { KnownRows (code.now.k * code.now.m) known.now (entry (code.now.k * code.now.m) work.old) }
-    requires reduced { Reduced ops (code.now.k * code.now.m) (entry (code.now.k * code.now.m) work.old) }
-    ensures { Took ops code.now cells.now known.now x (entry (code.now.k * code.now.m) work.old) result (entry (code.now.k * code.now.m) work.new) }
+    requires reduced { Reduced F.ops (code.now.k * code.now.m) (entry (code.now.k * code.now.m) work.old) }
+    ensures { Took F.ops code.now cells.now known.now x (entry (code.now.k * code.now.m) work.old) result (entry (code.now.k * code.now.m) work.new) }
 {
     let columns = code.columns();
     let v = x / columns;
@@ -77,17 +77,17 @@ pub(crate) fn take_cells<F: Field>(
     work: &mut [u32],
 ) -> bool
     requires cells { length cells.now ≡ 704 }
-    requires symbols { (x : ℕ) → x < cell_count code.now → slice_index cells.now x < 65536 → slice_index cells.now x < ops.q }
+    requires symbols { (x : ℕ) → x < cell_count code.now → slice_index cells.now x < 65536 → slice_index cells.now x < F.ops.q }
     requires long { length table.now ≡ 4096 }
-    requires table { ColumnTable ops code.now table.now }
+    requires table { ColumnTable F.ops code.now table.now }
     requires marks { length known.now ≡ 504 }
     requires row { length row.old ≡ code.now.k * code.now.m + 1 }
     requires front { length work.old ≡ code.now.k * code.now.m * (code.now.k * code.now.m + 1) }
     requires marked { KnownRows (code.now.k * code.now.m) known.now (entry (code.now.k * code.now.m) work.old) }
-    requires reduced { Reduced ops (code.now.k * code.now.m) (entry (code.now.k * code.now.m) work.old) }
-    requires met { DataMet ops code.now cells.now (entry (code.now.k * code.now.m) work.old) }
-    ensures all { result ≡ true → TookAll ops code.now cells.now known.now (cell_count code.now) (entry (code.now.k * code.now.m) work.old) (entry (code.now.k * code.now.m) work.new) }
-    ensures none { result ≡ false → Contradicts ops code.now cells.now (entry (code.now.k * code.now.m) work.old) }
+    requires reduced { Reduced F.ops (code.now.k * code.now.m) (entry (code.now.k * code.now.m) work.old) }
+    requires met { DataMet F.ops code.now cells.now (entry (code.now.k * code.now.m) work.old) }
+    ensures all { result ≡ true → TookAll F.ops code.now cells.now known.now (cell_count code.now) (entry (code.now.k * code.now.m) work.old) (entry (code.now.k * code.now.m) work.new) }
+    ensures none { result ≡ false → Contradicts F.ops code.now cells.now (entry (code.now.k * code.now.m) work.old) }
 {
     for x in 0..code.nodes() * code.columns() {
         if !take_cell::<F>(code, cells, table, known, x, row, work) {

@@ -1,5 +1,7 @@
 // Measures the solver against an elimination of all symbols over all present cells. Standard output says only what
 // both find; the times, which differ from run to run, go to standard error.
+#![tactic(auto)]
+
 mod dense;
 
 use code::{Code, Refusal};

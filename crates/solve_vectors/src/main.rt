@@ -1,4 +1,6 @@
 // Tries the solver on worked values, and compares it with a slow elimination of its own on many random cells.
+#![tactic(auto)]
+
 mod dense;
 
 use code::{Code, Refusal};

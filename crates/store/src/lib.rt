@@ -1,4 +1,6 @@
 // Stores of cells: what every store does, and a store over a row of numbers.
+#![tactic(auto)]
+
 ghost use Rattle.std.specs.Prelude.{◌≡◌, ◌*◌, ◌≤◌, length, replicate, Some, None};
 ghost use Rattle.store.specs.Meaning.{Meaning, Lawful, Changed, Frames, Blank};
 ghost use Rattle.store.specs.Sizes.{counted_columns, counted_nodes, whole_nodes};

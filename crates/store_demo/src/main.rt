@@ -1,4 +1,6 @@
 // Works a grid and a card through the same changes, and shows where each of them ends.
+#![tactic(auto)]
+
 ghost use Rattle.std.specs.Prelude.{◌≡◌, length, None};
 ghost use Rattle.store.specs.Meaning.{Changed};
 ghost use Rattle.store.specs.Sizes.{counted_columns, counted_nodes, whole_nodes};
@@ -44,8 +46,8 @@ fn differences<A: Store, B: Store>(a: &A, b: &B) -> u32 {
 
 // Loses one cell of any store.
 fn lose_cell<S: Store>(store: &mut S, j: usize, c: usize) -> bool
-    ensures changed { Changed (meaning store.old) j c None result (meaning store.new) }
-    ensures framed { frame store.old store.new }
+    ensures changed { Changed (S.meaning store.old) j c None result (S.meaning store.new) }
+    ensures framed { S.frame store.old store.new }
 {
     store.lose(j, c)
 }

@@ -1,4 +1,6 @@
 // The seven calls on a stripe: what they answer and leave, and the law over any list of them.
+#![tactic(auto)]
+
 ghost use Rattle.stripe.specs.Law.{LawOfCalls, MendingIsLocal};
 ghost use Rattle.stripe.specs.Survival.{BlankStores, Repair, Survival, WideCode};
 

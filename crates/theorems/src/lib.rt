@@ -1,6 +1,8 @@
 // What a stripe is made of: there is exactly one for each file, stripes are linear, and one symbol of the
 // file reaches few cells. Each function computes nothing: its contract is a theorem, for every field that
 // keeps the laws and every code.
+#![tactic(auto)]
+
 ghost use Rattle.code.specs.Stripe.{OneStripe};
 ghost use Rattle.theorems.specs.Change.{ChangeDiffers, ChangeReaches};
 ghost use Rattle.theorems.specs.Linear.{Linear, WeightedSum};

@@ -1,5 +1,7 @@
 // A courier's tour of thirty stops, kept on eighteen machines: it is laid as a stripe, one machine is lost, and a
 // round rebuilds what that machine held from its neighbours.
+#![tactic(auto)]
+
 use code::{Code, Refusal};
 use encode::{encode, keeps_rules};
 use field::Bytes;

@@ -18,4 +18,4 @@ returns c =
     looked_all c.args.nodes c.args.columns c.args.bytes.now c.loop-command.rest.now c.args.j c.args.c c.loop-command.found
     c.loop-command.invariant.1
     (faulty_stuck c.args.nodes c.args.columns (length c.args.bytes.now - length c.loop-command.rest.now) c.loop-command.rest.now
-    c.in-default.field-0 c.in-default.ensures)
+    c.in_default.field-0 c.in_default.ensures)

@@ -7,6 +7,6 @@ pub returns : goal.returns
 returns c =
     let n = counted_nodes c.args.nodes c.args.columns in
     let w = counted_columns c.args.columns in
-    let checked : Checked n w c.args.bytes.now c.count-commands.result =
-    rw (← c.count-nodes.ensures, ← c.count-columns.ensures) c.count-commands.ensures in
-    record { checked = checked; agrees = check_agrees n w c.args.bytes.now c.count-commands.result checked }
+    let checked : Checked n w c.args.bytes.now c.count_commands.result =
+    rw (← c.count_nodes.ensures, ← c.count_columns.ensures) c.count_commands.ensures in
+    record { checked = checked; agrees = check_agrees n w c.args.bytes.now c.count_commands.result checked }

@@ -7,32 +7,33 @@ use Rattle.encode.proofs.encode.Goals as goal
 
 pub complete-requires : goal.complete-requires
 complete-requires g c =
-    let F = g.F.Field.ops in (
-      accepted_file F c.args.code.now c.args.file.now (length c.args.cells.now) c.in-default.ensures,
-      omega arith,
-      λ j h. c.powers.ensures j h ∙ ap (λ a. power F a j) c.alpha.ensures,
-      omega arith,
-    )
+    let F = g.F.Field.ops in
+    record {
+      file = accepted_file F c.args.code.now c.args.file.now (length c.args.cells.now) c.in_default.ensures;
+      long = omega arith;
+      powers = λ j h. c.powers.ensures j h ∙ ap (λ a. power F a j) c.alpha.ensures;
+      columns = omega arith;
+    }
 
-pub write-nodes-requires : goal.write-nodes-requires
-write-nodes-requires g c =
+pub write_nodes-requires : goal.write_nodes-requires
+write_nodes-requires g c =
     let F = g.F.Field.ops in
     record {
       long = omega arith;
       powers = λ j h. c.powers.ensures j h ∙ ap (λ a. power F a j) c.alpha.ensures;
       columns = omega arith;
-      room = accepted_room F c.args.code.now c.args.file.now (length c.args.cells.now) c.in-default.ensures;
+      room = accepted_room F c.args.code.now c.args.file.now (length c.args.cells.now) c.in_default.ensures;
     }
 
 pub returns : goal.returns
 returns g c =
     let F = g.F.Field.ops in
     let L = g.met.F.Field.laws in (
-      c.in-default.ensures,
+      c.in_default.ensures,
       ap₂ ◌*◌ c.nodes.ensures c.columns.ensures,
       record {
-        stripe = stripe_of F L c.args.code.now c.args.file.now (in_columns c.complete.new.columns) (in_memory c.args.code.now c.write-nodes.new.cells) c.complete.ensures c.write-nodes.ensures.written;
+        stripe = stripe_of F L c.args.code.now c.args.file.now (in_columns c.complete.new.columns) (in_memory c.args.code.now c.write_nodes.new.cells) c.complete.ensures c.write_nodes.ensures.written;
         long = omega arith;
-        kept = c.write-nodes.ensures.kept;
+        kept = c.write_nodes.ensures.kept;
       },
     )

@@ -5,12 +5,12 @@ use Rattle.encode.specs.Encoding.{cell_count}
 use Rattle.encode.proofs.Memory.{cells_below, numbers_below}
 use Rattle.encode.proofs.keeps_rules.Goals as goal
 
-pub returns-then-not-all-symbols : goal.returns-then-not-all-symbols
-returns-then-not-all-symbols g c =
+pub returns-then-not-all_symbols : goal.returns-then-not-all_symbols
+returns-then-not-all_symbols g c =
     let F = g.F.Field.ops in
     let count : c.nodes.result * c.columns.result - 0 ≡ cell_count c.args.code.now = sub-zero (c.nodes.result * c.columns.result) ∙ ap₂ ◌*◌ c.nodes.ensures c.columns.ensures in
     let room : c.nodes.result * c.columns.result - 0 ≤ length c.args.cells.now = omega arith in
-    let found = c.all-symbols.ensures.not c.if-not-all-symbols.true in (
+    let found = c.all_symbols.ensures.not c.if-not-all_symbols.true in (
       omega arith,
       (
         λ e. absurd (false≢true e),
@@ -28,10 +28,10 @@ returns g c =
       omega arith,
       (
         λ e. record {
-          symbols = cells_below F.q c.args.code.now c.args.cells.now (c.nodes.result * c.columns.result - 0) count room (c.all-symbols.ensures.yes c.if-not-all-symbols.false);
-          columns = c.keeps-columns.ensures.0 c.if-not-keeps-columns.false;
-          groups = c.keeps-groups.ensures.0 e;
+          symbols = cells_below F.q c.args.code.now c.args.cells.now (c.nodes.result * c.columns.result - 0) count room (c.all_symbols.ensures.yes c.if-not-all_symbols.false);
+          columns = c.keeps_columns.ensures.0 c.if-not-keeps_columns.false;
+          groups = c.keeps_groups.ensures.0 e;
         },
-        λ e keeps. c.keeps-groups.ensures.1 e keeps.groups,
+        λ e keeps. c.keeps_groups.ensures.1 e keeps.groups,
       ),
     )

@@ -6,6 +6,6 @@ pub loop-i-preserved : goal.loop-i-preserved
 loop-i-preserved g c e h =
     let F = g.F.Field.ops in
     let before = c.loop-i.invariant e h in
-    let order : e + (c.loop-i.-i + 1) ≡ e + c.loop-i.-i + 1 = omega arith in
-    let more = power_more F F.α (e + c.loop-i.-i) in
+    let order : e + (c.loop-i._i + 1) ≡ e + c.loop-i._i + 1 = omega arith in
+    let more = power_more F F.α (e + c.loop-i._i) in
     cc

@@ -3,19 +3,19 @@ use Rattle.commands.specs.declared.command.Command.TheVariants.{Lose}
 use Rattle.card.proofs.Grows.{Sound, sound_of, sound_set, sound_grown, allowed_parts, three_sets, changed_grown, kept_grown, untouched_grown}
 use Rattle.card.proofs.CardStore.lose.Goals as goal
 
-pub invariant-of-self : goal.invariant-of-self
-invariant-of-self c =
+pub invariant_of-self : goal.invariant_of-self
+invariant_of-self c =
     let k = c.args.self.now in
     sound_set k.used k.nodes k.columns k.bytes.now k.used 76 (omega arith) (sound_of k)
 
-pub invariant-of-self-2 : goal.invariant-of-self-2
-invariant-of-self-2 c =
+pub invariant_of-self-2 : goal.invariant_of-self-2
+invariant_of-self-2 c =
     let k = c.args.self.now in
     sound_set k.used k.nodes k.columns _ (k.used + 1) c.args.j (omega arith)
     (sound_set k.used k.nodes k.columns k.bytes.now k.used 76 (omega arith) (sound_of k))
 
-pub invariant-of-self-3 : goal.invariant-of-self-3
-invariant-of-self-3 c =
+pub invariant_of-self-3 : goal.invariant_of-self-3
+invariant_of-self-3 c =
     let k = c.args.self.now in
     let p = allowed_parts k c.args.j c.args.c (sym c.if-not-takes.ensures) in
     let e = three_sets k.bytes.now k.used 76 c.args.j c.args.c (omega arith) in

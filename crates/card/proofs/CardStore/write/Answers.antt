@@ -17,20 +17,20 @@ three k a b d = sound_set k.used k.nodes k.columns _ (k.used + 2) d (omega arith
 four : (k : Card) (a b d e : ℕ) → Sound k.used k.nodes k.columns (set (set (set (set k.bytes.now k.used a) (k.used + 1) b) (k.used + 2) d) (k.used + 3) e)
 four k a b d e = sound_set k.used k.nodes k.columns _ (k.used + 3) e (omega arith) (three k a b d)
 
-pub invariant-of-self : goal.invariant-of-self
-invariant-of-self c = one c.args.self.now 87
+pub invariant_of-self : goal.invariant_of-self
+invariant_of-self c = one c.args.self.now 87
 
-pub invariant-of-self-2 : goal.invariant-of-self-2
-invariant-of-self-2 c = two c.args.self.now 87 c.args.j
+pub invariant_of-self-2 : goal.invariant_of-self-2
+invariant_of-self-2 c = two c.args.self.now 87 c.args.j
 
-pub invariant-of-self-3 : goal.invariant-of-self-3
-invariant-of-self-3 c = three c.args.self.now 87 c.args.j c.args.c
+pub invariant_of-self-3 : goal.invariant_of-self-3
+invariant_of-self-3 c = three c.args.self.now 87 c.args.j c.args.c
 
-pub invariant-of-self-4 : goal.invariant-of-self-4
-invariant-of-self-4 c = four c.args.self.now 87 c.args.j c.args.c (c.args.s / 256)
+pub invariant_of-self-4 : goal.invariant_of-self-4
+invariant_of-self-4 c = four c.args.self.now 87 c.args.j c.args.c (c.args.s / 256)
 
-pub invariant-of-self-5 : goal.invariant-of-self-5
-invariant-of-self-5 c =
+pub invariant_of-self-5 : goal.invariant_of-self-5
+invariant_of-self-5 c =
     let k = c.args.self.now in
     let p = allowed_parts k c.args.j c.args.c (sym c.if-not-takes.ensures) in
     let e = five_sets k.bytes.now k.used 87 c.args.j c.args.c (c.args.s / 256) (c.args.s % 256) p.2 in

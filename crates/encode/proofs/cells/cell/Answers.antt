@@ -18,4 +18,4 @@ returns-else-c-m g c =
     let code = c.args.code.now in
     let x = in_columns c.args.columns.now in
     cond_above c.args.c c.args.code.now.m (x c.args.v c.args.c) (coded F code x c.args.v (c.args.c - code.m)) c.group_sum.result (omega arith)
-    (c.group_sum.ensures ∙ ap (λ m. coded F code x c.args.v (c.args.c - m)) c.data-columns-m.ensures)
+    (c.group_sum.ensures ∙ ap (λ m. coded F code x c.args.v (c.args.c - m)) c.data_columns-m.ensures)

@@ -8,17 +8,18 @@ use Rattle.encode.specs.Scratch.{in_columns}
 use Rattle.encode.proofs.Points.{column_sum_zero}
 use Rattle.encode.proofs.columns.complete.Goals as goal
 
-pub solve-all-requires : goal.solve-all-requires
-solve-all-requires g c =
+pub solve_all-requires : goal.solve_all-requires
+solve_all-requires g c =
     let F = g.F.Field.ops in
     let L = g.met.F.Field.laws in
     let k = c.args.code.now.k in
-    let x = in_columns c.place-file.new.columns in (
-      c.requires.1,
-      c.requires.2,
-      omega arith,
-      λ i t hi ht. rw (c.all-targets.ensures.made i t hi ht) (L.sub_below 0 (sum F k (λ j. F.mul (power F F.α (i * j)) (x j t)))),
-    )
+    let x = in_columns c.place_file.new.columns in
+    record {
+      long = c.requires.long;
+      powers = c.requires.powers;
+      columns = omega arith;
+      targets = λ i t hi ht. rw (c.all_targets.ensures.made i t hi ht) (L.sub_below 0 (sum F k (λ j. F.mul (power F F.α (i * j)) (x j t))));
+    }
 
 pub returns : goal.returns
 returns g c =
@@ -27,27 +28,27 @@ returns g c =
     let n = c.args.code.now.n in
     let k = c.args.code.now.k in
     let m = c.args.code.now.m in
-    let placed = c.place-file.new.columns in
-    let x = c.solve-all.new.columns in
-    let same : (j t : ℕ) → j < c.args.code.now.k → in_columns c.solve-all.new.columns j t ≡ in_columns c.place-file.new.columns j t =
-    λ j t l. c.solve-all.ensures.kept j t l ∙ c.all-targets.ensures.kept j t l in
-    let starts : (j t : ℕ) → j < c.args.code.now.k → t < c.args.code.now.m → in_columns c.solve-all.new.columns j t ≡ get_or c.args.file.now (j * c.args.code.now.m + t) 0 =
-    λ j t l h. same j t l ∙ c.place-file.ensures j t l h in
+    let placed = c.place_file.new.columns in
+    let x = c.solve_all.new.columns in
+    let same : (j t : ℕ) → j < c.args.code.now.k → in_columns c.solve_all.new.columns j t ≡ in_columns c.place_file.new.columns j t =
+    λ j t l. c.solve_all.ensures.kept j t l ∙ c.all_targets.ensures.kept j t l in
+    let starts : (j t : ℕ) → j < c.args.code.now.k → t < c.args.code.now.m → in_columns c.solve_all.new.columns j t ≡ get_or c.args.file.now (j * c.args.code.now.m + t) 0 =
+    λ j t l h. same j t l ∙ c.place_file.ensures j t l h in
     record {
       starts = starts;
       symbols = λ j t hj ht.
           elim (cases_lt j c.args.code.now.k) [
             | inl l ↦
                 let low : j * c.args.code.now.m + t < c.args.code.now.m * c.args.code.now.k = mul-add-lt j m t k l ht in
-                rw (starts j t l ht) (c.requires.0.symbols (j * m + t) (omega (arith, c.requires.0.long)))
+                rw (starts j t l ht) (c.requires.file.symbols (j * m + t) (omega (arith, c.requires.file.long)))
             | inr l ↦
                 let e : c.args.code.now.k + (j - c.args.code.now.k) ≡ j = omega arith in
-                rw e at (c.solve-all.ensures.below (j - k) t (omega arith) ht)
+                rw e at (c.solve_all.ensures.below (j - k) t (omega arith) ht)
           ];
       columns = λ t i ht hi.
           column_sum_zero F L n k i (λ j. in_columns x j t) (omega arith)
-          (c.solve-all.ensures.reached i t hi ht
-          ∙ c.all-targets.ensures.made i t hi ht
+          (c.solve_all.ensures.reached i t hi ht
+          ∙ c.all_targets.ensures.made i t hi ht
           ∙ ap (F.sub 0)
           (numbers.sum_ext F L k (λ j. F.mul (power F F.α (i * j)) (in_columns placed j t)) (λ j. F.mul (power F F.α (i * j)) (in_columns x j t))
           (λ j l. ap (F.mul (power F F.α (i * j))) (sym (same j t l)))));

@@ -11,4 +11,4 @@ loop-i-preserved g c =
     below_more
     (λ (i : ℕ). x (ahead code.n c.args.j i) (code.m + i) ≡ group_sum g.F.Field.ops code x c.args.j i)
     c.loop-i.i c.loop-i.invariant
-    (sym (c.cell-at.ensures ∙ ap₂ x c.ahead-v.ensures (ap (λ m. m + c.loop-i.i) c.data-columns-m.ensures)) ∙ c.if-cell-at-group-total.false ∙ c.group-total.ensures)
+    (sym (c.cell_at.ensures ∙ ap₂ x c.ahead-v.ensures (ap (λ m. m + c.loop-i.i) c.data_columns-m.ensures)) ∙ c.if-cell_at-group_total.false ∙ c.group_total.ensures)

@@ -9,8 +9,8 @@ pub loop-v-init : goal.loop-v-init
 loop-v-init g c =
     let F = g.F.Field.ops in
     let L = g.met.F.Field.laws in (
-      c.requires.2,
-      ap (F.add (get_or c.args.targets.now 0 0)) (sum_none F L (λ w. get_or c.args.targets.now (w + 1) 0)) ∙ L.add-zero (get_or c.args.targets.now 0 0) c.requires.2,
+      c.requires.target,
+      ap (F.add (get_or c.args.targets.now 0 0)) (sum_none F L (λ w. get_or c.args.targets.now (w + 1) 0)) ∙ L.add-zero (get_or c.args.targets.now 0 0) c.requires.target,
       λ k h. absurd (omega arith),
       λ k h. refl,
     )

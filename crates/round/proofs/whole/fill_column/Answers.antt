@@ -9,7 +9,7 @@ use Rattle.round.proofs.whole.fill_column.Goals as goal
 pub bounds-cells-node : goal.bounds-cells-node
 bounds-cells-node g c =
     let w = c.loop-given.round in
-    let same = c.loop-given.invariant.0.code-is in
+    let same = c.loop-given.invariant.0.code_is in
     let n : w.code.n ≡ c.args.round.code.n = ap (λ (x : Code). x.n) same in
     let k : width w.code ≡ width c.args.round.code = ap width same in
     let i = rw (← c.wanted-node.ensures) at (inside_at w.code w.node w.column w.place w.inside.1) in
@@ -20,9 +20,9 @@ pub loop-given-smaller : goal.loop-given-smaller
 loop-given-smaller g c =
     let w = c.loop-given.round in
     let was = c.loop-given.invariant.0 in
-    let m : w.code.m ≡ c.args.round.code.m = ap (λ (x : Code). x.m) was.code-is in
+    let m : w.code.m ≡ c.args.round.code.m = ap (λ (x : Code). x.m) was.code_is in
     let v_is = read_is c.args.round.code c.args.round.node c.args.cells.now w c.wanted-node.result c.args.columns
-    was.code-is was.node_is c.requires.columns c.wanted-node.ensures in
+    was.code_is was.node_is c.requires.columns c.wanted-node.ensures in
     let on = fetches_on g.F.Field.ops c.args.round.code c.args.round.node c.args.cells.now w _ was v_is
     c.in-Ok.given c.in-Wanting.next c.in-Ok.ensures c.in-Wanting.is in
     let one_more = on.2 in
@@ -34,7 +34,7 @@ loop-given-preserved g c =
     let w = c.loop-given.round in
     let was = c.loop-given.invariant.0 in
     let v_is = read_is c.args.round.code c.args.round.node c.args.cells.now w c.wanted-node.result c.args.columns
-    was.code-is was.node_is c.requires.columns c.wanted-node.ensures in
+    was.code_is was.node_is c.requires.columns c.wanted-node.ensures in
     let on = fetches_on g.F.Field.ops c.args.round.code c.args.round.node c.args.cells.now w _ was v_is
     c.in-Ok.given c.in-Wanting.next c.in-Ok.ensures c.in-Wanting.is in
     (on.0, on.1 ∙ c.loop-given.invariant.1)
@@ -44,7 +44,7 @@ returns-in-Holding g c =
     let w = c.loop-given.round in
     let was = c.loop-given.invariant.0 in
     let v_is = read_is c.args.round.code c.args.round.node c.args.cells.now w c.wanted-node.result c.args.columns
-    was.code-is was.node_is c.requires.columns c.wanted-node.ensures in
+    was.code_is was.node_is c.requires.columns c.wanted-node.ensures in
     let on = fetches_all g.F.Field.ops c.args.round.code c.args.round.node c.args.cells.now w _ was v_is
     c.in-Ok.given c.in-Holding.holding c.in-Ok.ensures c.in-Holding.is in
     (on.0 ∙ c.loop-given.invariant.1, on.1)
@@ -54,12 +54,12 @@ returns-in-Err g c =
     let w = c.loop-given.round in
     let was = c.loop-given.invariant.0 in
     let v_is = read_is c.args.round.code c.args.round.node c.args.cells.now w c.wanted-node.result c.args.columns
-    was.code-is was.node_is c.requires.columns c.wanted-node.ensures in
+    was.code_is was.node_is c.requires.columns c.wanted-node.ensures in
     let why = c.in-Err.ensures in (
       why.why,
       (
         given_wanting w,
-        subst (λ (x : Code). given_wanting w < whole x) was.code-is (below_whole w.code w.column w.place w.inside.0 w.inside.1),
+        subst (λ (x : Code). given_wanting w < whole x) was.code_is (below_whole w.code w.column w.place w.inside.0 w.inside.1),
         rw v_is at why.no_symbol,
       ),
     )

@@ -10,9 +10,9 @@ loop-j-preserved g c = λ i li.
     let code = c.args.code.now in
     let small : c.loop-j.j < 64 = omega (arith, c.args.code.now.data_nodes, c.args.code.now.nodes) in
     elim (cases_eq i c.loop-j.j) [
-      | inl e ↦ subst (λ t. ColumnOf F code t c.unit-column.new.table) (sym e) c.unit-column.ensures.made
-      | inr d ↦ column_kept F code i c.loop-j.table c.unit-column.new.table
-          (λ v. c.unit-column.ensures.kept v i (omega arith) d) (c.loop-j.invariant i (omega arith))
+      | inl e ↦ subst (λ t. ColumnOf F code t c.unit_column.new.table) (sym e) c.unit_column.ensures.made
+      | inr d ↦ column_kept F code i c.loop-j.table c.unit_column.new.table
+          (λ v. c.unit_column.ensures.kept v i (omega arith) d) (c.loop-j.invariant i (omega arith))
     ]
 
 pub returns : goal.returns

@@ -6,12 +6,12 @@ use Rattle.solve.proofs.factors.equation.Goals as goal
 pub loop-t-preserved : goal.loop-t-preserved
 loop-t-preserved g c =
     equation_step g.F.Field.ops c.args.code.now c.args.v c.args.c c.loop-t.t c.weight-w.result.0 c.weight-w.result.1
-    c.args.table.now c.loop-t.row c.put-factors.new.row (omega arith) c.requires.table c.weight-w.ensures
-    c.put-factors.ensures.made c.put-factors.ensures.kept c.loop-t.invariant
+    c.args.table.now c.loop-t.row c.put_factors.new.row (omega arith) c.requires.table c.weight-w.ensures
+    c.put_factors.ensures.made c.put_factors.ensures.kept c.loop-t.invariant
 
 pub returns : goal.returns
 returns g c =
     let code = c.args.code.now in
-    subst (λ t. IsEquation g.F.Field.ops code c.args.v c.args.c c.args.value (set c.loop-t.row t c.args.value)) (sym c.file-length.ensures)
+    subst (λ t. IsEquation g.F.Field.ops code c.args.v c.args.c c.args.value (set c.loop-t.row t c.args.value)) (sym c.file_length.ensures)
     (equation_made g.F.Field.ops code c.args.v c.args.c c.args.value c.loop-t.row (omega arith)
     (λ j s y lj ls Y. c.loop-t.invariant j s y lj (omega arith) Y))

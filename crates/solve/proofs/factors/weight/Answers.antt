@@ -4,13 +4,13 @@ use Rattle.solve.proofs.factors.weight.Goals as goal
 
 pub returns-then-c-t : goal.returns-then-c-t
 returns-then-c-t g c =
-    weight_same g.F.Field.ops g.met.F.Field.laws c.args.code.now c.args.v c.args.c c.args.t c.requires.0 c.requires.1 c.if-c-t.true
+    weight_same g.F.Field.ops g.met.F.Field.laws c.args.code.now c.args.v c.args.c c.args.t c.requires.node c.requires.column c.if-c-t.true
 
 pub returns-else-c-t : goal.returns-else-c-t
 returns-else-c-t g c =
-    weight_other g.F.Field.ops g.met.F.Field.laws c.args.code.now c.args.v c.args.c c.args.t c.requires.0 (omega arith) c.requires.2 c.if-c-t.false
+    weight_other g.F.Field.ops g.met.F.Field.laws c.args.code.now c.args.v c.args.c c.args.t c.requires.node (omega arith) c.requires.data_column c.if-c-t.false
 
 pub returns : goal.returns
 returns g c =
-    weight_coded g.F.Field.ops g.met.F.Field.laws c.args.code.now c.args.v c.args.c c.args.t c.data-columns-m.result _ _
-    c.data-columns-m.ensures c.requires.0 c.requires.1 c.requires.2 (omega arith) (cc) (cc)
+    weight_coded g.F.Field.ops g.met.F.Field.laws c.args.code.now c.args.v c.args.c c.args.t c.data_columns-m.result _ _
+    c.data_columns-m.ensures c.requires.node c.requires.column c.requires.data_column (omega arith) (cc) (cc)

@@ -8,7 +8,7 @@ pub loop-p-preserved : goal.loop-p-preserved
 loop-p-preserved c = λ p l.
     let n = c.args.n in
     let w = c.args.work.now in
-    let here = c.in-default.ensures in
+    let here = c.in_default.ensures in
     elim (cases_eq p c.loop-p.p) [
       | inl e ↦ subst (λ t. Lone n (entry n w) t (Some (entry n w t n))) (sym e) (here.0, here.1, refl)
       | inr d ↦ c.loop-p.invariant p (omega arith)

@@ -7,8 +7,8 @@ use Rattle.solve.proofs.reading.decide.Goals as goal
 
 pub lone-requires : goal.lone-requires
 lone-requires g c =
-    let n : c.in-ok-n.n ≡ c.args.code.now.k * c.args.code.now.m = c.in-ok-n.ensures.0 in
-    let e : c.args.code.now.k * c.args.code.now.m ≡ c.in-ok-n.n = sym n in (
+    let n : c.in_ok-n.n ≡ c.args.code.now.k * c.args.code.now.m = c.in_ok-n.ensures.0 in
+    let e : c.args.code.now.k * c.args.code.now.m ≡ c.in_ok-n.n = sym n in (
       omega (arith, few_symbols c.args.code.now),
       omega arith,
       subst (λ t. length c.solve.new.work ≡ t * (t + 1)) e (omega arith),
@@ -16,14 +16,14 @@ lone-requires g c =
 
 pub returns-in-Some : goal.returns-in-Some
 returns-in-Some g c = (
-  c.in-ok-n.ensures.1.proper,
-  lone_shared g.F.Field.ops g.met.F.Field.laws c.args.code.now (g.S.Store.meaning c.args.store.now).cell c.solve.new.work c.in-ok-n.ensures.1 c.args.place c.in-Some.value c.requires.1
-      (subst (λ t. Lone t (entry t c.solve.new.work) c.args.place (Some c.in-Some.value)) c.in-ok-n.ensures.0 c.in-Some.ensures),
+  c.in_ok-n.ensures.1.proper,
+  lone_shared g.F.Field.ops g.met.F.Field.laws c.args.code.now (g.S.Store.meaning c.args.store.now).cell c.solve.new.work c.in_ok-n.ensures.1 c.args.place c.in-Some.value c.requires.place
+      (subst (λ t. Lone t (entry t c.solve.new.work) c.args.place (Some c.in-Some.value)) c.in_ok-n.ensures.0 c.in-Some.ensures),
 )
 
 pub returns-in-None : goal.returns-in-None
 returns-in-None g c = (
-  c.in-ok-n.ensures.1.proper,
-  lone_open g.F.Field.ops g.met.F.Field.laws c.args.code.now (g.S.Store.meaning c.args.store.now).cell c.solve.new.work c.in-ok-n.ensures.1 c.args.place c.requires.1
-      (subst (λ t. Lone t (entry t c.solve.new.work) c.args.place None) c.in-ok-n.ensures.0 c.in-None.ensures),
+  c.in_ok-n.ensures.1.proper,
+  lone_open g.F.Field.ops g.met.F.Field.laws c.args.code.now (g.S.Store.meaning c.args.store.now).cell c.solve.new.work c.in_ok-n.ensures.1 c.args.place c.requires.place
+      (subst (λ t. Lone t (entry t c.solve.new.work) c.args.place None) c.in_ok-n.ensures.0 c.in-None.ensures),
 )

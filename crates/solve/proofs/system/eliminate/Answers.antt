@@ -9,8 +9,8 @@ bounds-work-s g c =
     let low : c.in-Some.s < c.args.n = omega (arith, c.in-Some.ensures) in
     omega (arith, row_inside (c.args.n + 1) c.args.n c.in-Some.s low)
 
-pub subtract-row-requires : goal.subtract-row-requires
-subtract-row-requires g c =
+pub subtract_row-requires : goal.subtract_row-requires
+subtract_row-requires g c =
     let low : c.in-Some.s < c.args.n = omega (arith, c.in-Some.ensures) in
     let lc : c.args.c < c.args.n = omega arith in (
       omega arith,
@@ -31,12 +31,12 @@ loop-s-preserved g c =
     let low : c.in-Some.s < c.args.n = omega (arith, c.in-Some.ensures) in
     let skipped : OutUpTo g.F.Field.ops c.args.n c.args.c c.in-Some.s c.args.work.now c.loop-s.work =
     out_skip F L N c.args.c lc before c.loop-s.work c.loop-s.from c.in-Some.s c.in-Some.ensures.0 (omega arith)
-    c.requires.3 c.in-Some.ensures.3 c.loop-s.invariant.1 in (
+    c.requires.below c.in-Some.ensures.3 c.loop-s.invariant.1 in (
       omega arith,
       elim c.if-s-c.branch [
         | then-s-c w ↦
-            rw w.work-is (out_row F L N c.args.c lc before w.subtract-row.new.work c.in-Some.s _ c.loop-s.work
-            w.if-s-c.true refl skipped w.subtract-row.ensures)
+            rw w.work-is (out_row F L N c.args.c lc before w.subtract_row.new.work c.in-Some.s _ c.loop-s.work
+            w.if-s-c.true refl skipped w.subtract_row.ensures)
         | else-s-c w ↦ rw w.work-is (out_pass F L N c.args.c lc before c.loop-s.work c.in-Some.s w.if-s-c.false skipped)
       ],
     )
@@ -50,5 +50,5 @@ returns g c =
     let lc : c.args.c < c.args.n = omega arith in
     let all : OutUpTo g.F.Field.ops c.args.n c.args.c c.args.n c.args.work.now c.loop-s.work =
     out_skip F L N c.args.c lc before c.loop-s.work c.loop-s.from N c.loop-s.invariant.0 (omega arith)
-    c.requires.3 (λ i h l. c.in-default.ensures i h (omega arith)) c.loop-s.invariant.1 in
+    c.requires.below (λ i h l. c.in_default.ensures i h (omega arith)) c.loop-s.invariant.1 in
     record { kept = all.kept; others = λ p j lp lj d. all.done p j lp lj d }

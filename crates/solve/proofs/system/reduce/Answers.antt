@@ -20,8 +20,8 @@ loop-p-preserved g c =
     let mid : ℕ → ℕ = λ j. get_or c.loop-p.row j 0 in
     elim c.if-work-p-ne0.branch [
       | then-work-p-ne0+then-row-p-ne0 w ↦
-          rw w.row-is (remainder_take F g.met.F.Field.laws N i A row mid (λ j. get_or w.take-out.new.row j 0) c.requires.5 (omega arith)
-          w.if-work-p-ne0.true w.take-out.ensures c.loop-p.invariant)
+          rw w.row-is (remainder_take F g.met.F.Field.laws N i A row mid (λ j. get_or w.take_out.new.row j 0) c.requires.reduced (omega arith)
+          w.if-work-p-ne0.true w.take_out.ensures c.loop-p.invariant)
       | else-work-p-ne0 w ↦
           rw w.row-is
           (elim w.else-work-p-ne0.branch [

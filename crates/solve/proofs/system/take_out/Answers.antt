@@ -10,8 +10,8 @@ bounds-work-a g c =
     let lp : c.args.p < c.args.n = omega arith in
     omega (arith, row_inside (c.args.n + 1) c.args.n c.args.p lp)
 
-pub slice-bounds-subtract-from-end : goal.slice-bounds-subtract-from-end
-slice-bounds-subtract-from-end g c =
+pub slice_bounds-subtract_from-end : goal.slice_bounds-subtract_from-end
+slice_bounds-subtract_from-end g c =
     let lp : c.args.p < c.args.n = omega arith in
     omega (arith, row_inside (c.args.n + 1) c.args.n c.args.p lp)
 
@@ -19,15 +19,15 @@ pub returns-then-known-p : goal.returns-then-known-p
 returns-then-known-p g c =
     let F = g.F.Field.ops in
     let L = g.met.F.Field.laws in
-    let known = c.requires.5 c.args.p c.requires.1 c.if-known-p.true in
+    let known = c.requires.marked c.args.p c.requires.symbol c.if-known-p.true in
     take_known F L c.args.n c.args.p (entry c.args.n c.args.work.now c.args.p) c.args.row.now c.minus.result
-    c.requires.1 c.requires.3 c.requires.6 known.0 known.1 (cc)
+    c.requires.symbol c.requires.row c.requires.below known.0 known.1 (cc)
 
 pub returns-else-known-p : goal.returns-else-known-p
 returns-else-known-p g c = λ j lj.
     let F = g.F.Field.ops in
     let a = c.args.p * (c.args.n + 1) in
     let width : c.args.p * (c.args.n + 1) + (c.args.n + 1) - c.args.p * (c.args.n + 1) ≡ c.args.n + 1 = omega arith in
-    c.subtract-from.ensures j (omega arith)
+    c.subtract_from.ensures j (omega arith)
     ∙ ap (λ x. F.sub (get_or c.args.row.now j 0) (F.mul (get_or c.args.row.now c.args.p 0) x))
     (get_or-take _ (drop a c.args.work.now) j 0 (rw width lj) ∙ get_or-drop a c.args.work.now j 0)

@@ -30,7 +30,7 @@ absorb-requires g c =
     let code = c.args.code.now in
     let at = place_of code.n (width code) c.args.x (width_positive code) c.requires.inside in
     let w : width c.args.code.now ≡ c.columns-columns.result = sym c.columns-columns.ensures in
-    let e : c.args.code.now.k * c.args.code.now.m ≡ c.file-length.result = sym c.file-length.ensures in
+    let e : c.args.code.now.k * c.args.code.now.m ≡ c.file_length.result = sym c.file_length.ensures in
     record {
       size = omega (arith, few_symbols code);
       front = subst (λ t. length c.args.work.now ≡ t * (t + 1)) e c.requires.front;
@@ -45,6 +45,6 @@ absorb-requires g c =
 
 pub returns : goal.returns
 returns g c =
-    took_cell g.F.Field.ops g.met.F.Field.laws c.args.code.now c.args.cells.now c.args.known.now c.args.x c.file-length.result
+    took_cell g.F.Field.ops g.met.F.Field.laws c.args.code.now c.args.cells.now c.args.known.now c.args.x c.file_length.result
     c.columns-columns.result c.equation.new.row (λ n. entry n c.args.work.now) (λ n. entry n c.absorb.new.work) c.absorb.result
-    c.file-length.ensures c.columns-columns.ensures (omega arith) c.equation.ensures c.absorb.ensures
+    c.file_length.ensures c.columns-columns.ensures (omega arith) c.equation.ensures c.absorb.ensures

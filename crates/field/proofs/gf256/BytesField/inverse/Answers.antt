@@ -13,6 +13,6 @@ returns-then-a-eq0 c =
 
 pub returns : goal.returns
 returns c =
-    c.power-of-two.ensures
+    c.power_of_two.ensures
     ∙ sym (reciprocal_by_exponent c.args.u c.logarithm.result c.logarithm.ensures.below
     (c.logarithm.ensures.right ∙ c.operand-a.ensures))

@@ -13,6 +13,6 @@ returns-then-a-eq0 c =
 
 pub returns : goal.returns
 returns c =
-    c.power-of-two.ensures
+    c.power_of_two.ensures
     ∙ sym (product_by_exponents c.args.u c.args.v c.logarithm.result c.logarithm-2.result
     (c.logarithm.ensures.right ∙ c.operand-a.ensures) (c.logarithm-2.ensures.right ∙ c.operand-b.ensures))

@@ -4,8 +4,8 @@ use Rattle.round.specs.Wanted.{α_power}
 use Rattle.round.proofs.Steps.{now_holds, still_wants}
 use Rattle.round.proofs.state.Wanting.give.Goals as goal
 
-pub returns-then-place-data-columns : goal.returns-then-place-data-columns
-returns-then-place-data-columns g c =
+pub returns-then-place-data_columns : goal.returns-then-place-data_columns
+returns-then-place-data_columns g c =
     let w = c.args.self in
     let F = g.F.Field.ops in
     let j = c.joined-made.ensures in
@@ -38,8 +38,8 @@ returns g c =
       column_kept = refl;
       counted = omega arith;
       given_too = λ code f symbols h.
-          let m : w.code.m ≡ code.m = ap (λ (x : Code). x.m) h.code-is in
-          let by : c.saturating-sub.result ≡ w.column - code.m = omega arith in
+          let m : w.code.m ≡ code.m = ap (λ (x : Code). x.m) h.code_is in
+          let by : c.saturating_sub.result ≡ w.column - code.m = omega arith in
           still_wants F g.met.F.Field.laws code f symbols w c.args.symbol _ h below refl refl refl refl
           (c.raised-weight.ensures ((w.column - code.m) * w.place) h.factor ∙ ap (λ k. α_power F ((w.column - code.m) * w.place + k)) by)
           (record { first = j.first; in_data = j.«data»; in_coded = j.coded });
