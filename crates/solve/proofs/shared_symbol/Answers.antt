@@ -12,7 +12,11 @@ decide-answer-requires g c =
     let code = c.args.code.now in
     let size : c.file_length-n.result * (c.file_length-n.result + 1) ≡ front c.args.code.now = ap (λ t. t * (t + 1)) c.file_length-n.ensures in
     let m : c.args.row * c.data_columns-2.result ≡ c.args.row * c.args.code.now.m = ap (λ t. c.args.row * t) c.data_columns-2.ensures in
-    (length-take-le _ c.args.work.now (omega arith) ∙ (let e : c.file_length-n.result * (c.file_length-n.result + 1) - 0 ≡ front c.args.code.now = omega arith in e), omega (arith, place_below code.k code.m c.args.row c.args.column (omega arith) (omega arith)))
+    let e : c.file_length-n.result * (c.file_length-n.result + 1) - 0 ≡ front c.args.code.now = omega arith in
+    record {
+      front = length-take-le _ c.args.work.now (omega arith) ∙ e;
+      place = omega (arith, place_below code.k code.m c.args.row c.args.column (omega arith) (omega arith));
+    }
 
 pub returns : goal.returns
 returns g c =

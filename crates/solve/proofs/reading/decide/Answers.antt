@@ -8,11 +8,12 @@ use Rattle.solve.proofs.reading.decide.Goals as goal
 pub lone-requires : goal.lone-requires
 lone-requires g c =
     let n : c.in_ok-n.n ≡ c.args.code.now.k * c.args.code.now.m = c.in_ok-n.ensures.0 in
-    let e : c.args.code.now.k * c.args.code.now.m ≡ c.in_ok-n.n = sym n in (
-      omega (arith, few_symbols c.args.code.now),
-      omega arith,
-      subst (λ t. length c.solve.new.work ≡ t * (t + 1)) e (omega arith),
-    )
+    let e : c.args.code.now.k * c.args.code.now.m ≡ c.in_ok-n.n = sym n in
+    record {
+      size = omega (arith, few_symbols c.args.code.now);
+      symbol = omega arith;
+      front = subst (λ t. length c.solve.new.work ≡ t * (t + 1)) e (omega arith);
+    }
 
 pub returns-in-Some : goal.returns-in-Some
 returns-in-Some g c = (

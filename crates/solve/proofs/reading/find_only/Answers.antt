@@ -9,13 +9,19 @@ pub all_lone-requires : goal.all_lone-requires
 all_lone-requires g c =
     let n : c.in_ok-n.n ≡ c.args.code.now.k * c.args.code.now.m = c.in_ok-n.ensures.0 in
     let e : c.args.code.now.k * c.args.code.now.m ≡ c.in_ok-n.n = sym n in
-    (omega (arith, few_symbols c.args.code.now), subst (λ t. length c.solve.new.work ≡ t * (t + 1)) e (omega arith))
+    record {
+      size = omega (arith, few_symbols c.args.code.now);
+      front = subst (λ t. length c.solve.new.work ≡ t * (t + 1)) e (omega arith);
+    }
 
 pub move_right_sides-requires : goal.move_right_sides-requires
 move_right_sides-requires g c =
     let n : c.in_ok-n.n ≡ c.args.code.now.k * c.args.code.now.m = c.in_ok-n.ensures.0 in
     let e : c.args.code.now.k * c.args.code.now.m ≡ c.in_ok-n.n = sym n in
-    (omega (arith, few_symbols c.args.code.now), subst (λ t. length c.solve.new.work ≡ t * (t + 1)) e (omega arith))
+    record {
+      size = omega (arith, few_symbols c.args.code.now);
+      front = subst (λ t. length c.solve.new.work ≡ t * (t + 1)) e (omega arith);
+    }
 
 pub returns-then-not-all_lone : goal.returns-then-not-all_lone
 returns-then-not-all_lone g c =

@@ -12,14 +12,15 @@ bounds-work-s g c =
 pub subtract_row-requires : goal.subtract_row-requires
 subtract_row-requires g c =
     let low : c.in-Some.s < c.args.n = omega (arith, c.in-Some.ensures) in
-    let lc : c.args.c < c.args.n = omega arith in (
-      omega arith,
-      omega arith,
-      c.if-s-c.true,
-      omega arith,
-      omega (arith, row_inside (c.args.n + 1) c.args.n c.in-Some.s low),
-      omega (arith, row_inside (c.args.n + 1) c.args.n c.args.c lc),
-    )
+    let lc : c.args.c < c.args.n = omega arith in
+    record {
+      row = omega arith;
+      other = omega arith;
+      differ = c.if-s-c.true;
+      narrow = omega arith;
+      inside = omega (arith, row_inside (c.args.n + 1) c.args.n c.in-Some.s low);
+      other_inside = omega (arith, row_inside (c.args.n + 1) c.args.n c.args.c lc);
+    }
 
 pub loop-s-preserved : goal.loop-s-preserved
 loop-s-preserved g c =

@@ -7,21 +7,30 @@ use Rattle.solve.proofs.system.install.Goals as goal
 pub put_row-requires : goal.put_row-requires
 put_row-requires g c =
     let lc : c.args.c < c.args.n = omega arith in
-    (omega arith, omega arith, omega arith, omega (arith, row_inside (c.args.n + 1) c.args.n c.args.c lc))
+    record {
+      row = omega arith;
+      narrow = omega arith;
+      long = omega arith;
+      inside = omega (arith, row_inside (c.args.n + 1) c.args.n c.args.c lc);
+    }
 
 pub scale_row-requires : goal.scale_row-requires
 scale_row-requires g c =
     let lc : c.args.c < c.args.n = omega arith in
-    (omega arith, omega arith, omega (arith, row_inside (c.args.n + 1) c.args.n c.args.c lc))
+    record {
+      row = omega arith;
+      narrow = omega arith;
+      inside = omega (arith, row_inside (c.args.n + 1) c.args.n c.args.c lc);
+    }
 
 pub eliminate-requires : goal.eliminate-requires
-eliminate-requires g c = (
-  c.requires.size,
-  c.requires.symbol,
-  omega arith,
-  scaled_below g.F.Field.ops g.met.F.Field.laws c.args.n c.args.c c.inverse.result c.args.row.now
-      c.args.work.now c.put_row.new.work c.scale_row.new.work c.put_row.ensures c.scale_row.ensures c.requires.below,
-)
+eliminate-requires g c = record {
+  size = c.requires.size;
+  symbol = c.requires.symbol;
+  front = omega arith;
+  below = scaled_below g.F.Field.ops g.met.F.Field.laws c.args.n c.args.c c.inverse.result c.args.row.now
+      c.args.work.now c.put_row.new.work c.scale_row.new.work c.put_row.ensures c.scale_row.ensures c.requires.below;
+}
 
 pub returns : goal.returns
 returns g c =
