@@ -4,7 +4,7 @@ use Rattle.std.proofs.lemmas.List.Edits.{sets-eq}
 use Rattle.std.proofs.lemmas.List.{take_at, take-set-le, drop_at, length-take-le, length-drop, flat_map_more}
 use Rattle.std.proofs.lemmas.Bool.{and_from, and_parts}
 use Rattle.std.proofs.lemmas.Bool.Decides.{nat_tests}
-use Rattle.store.specs.Meaning.{Changed, allowed, put}
+use Rattle.store.specs.Meaning.{Changed, allowed}
 use Rattle.store.specs.Sizes.{counted_columns, counted_nodes}
 use Rattle.commands.specs.declared.command.Command.{Command}
 use Rattle.commands.specs.declared.command.Command.TheVariants.{Write, Lose}
@@ -21,7 +21,7 @@ Sound used nodes columns bytes = record {
   room : used ≤ length bytes;
   whole : take used bytes ≡ all_bytes (commands_in (take used bytes));
   inside : all_inside nodes columns (commands_in (take used bytes)) ≡ true;
-  shape : (nodes ≡ counted_nodes nodes columns) × (columns ≡ counted_columns columns)
+  shape : (nodes ≡ counted_nodes nodes columns) × (columns ≡ counted_columns columns);
 }
 
 pub sound_of : (k : Card) → Sound k.used k.nodes k.columns (lent_bytes k)

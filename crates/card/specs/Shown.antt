@@ -3,7 +3,7 @@ use Rattle.std.specs.Prelude.{◌≡◌, ℕ, ◌+◌, ◌-◌, ◌<◌, ◌≤�
 use Rattle.std.proofs.Common.{sym, ap, ◌∙◌, arith}
 use Rattle.std.proofs.lemmas.List.{take-take, drop-drop}
 use Rattle.std.proofs.lemmas.Bool.{and_parts, and_from, eqb-true, ltb-true}
-use Rattle.store.specs.Meaning.{Lawful, Frames, inside}
+use Rattle.store.specs.Meaning.{Lawful, Frames}
 use Rattle.commands.specs.declared.command.Command.{Command}
 use Rattle.card.specs.declared.lent.Card.{Card}
 use Rattle.commands.specs.Commands.{value_of, node_of, column_of, two_bytes, is_inside, all_inside, is_on, later, latest, left_by}

@@ -1,5 +1,5 @@
 -- The smallest refusal that holds, from what the system decides.
-use Rattle.std.proofs.Common.{◌≡◌, ℕ, ◌+◌, ◌-◌, ◌*◌, ◌<◌, ◌≤◌, List, length, get_or, Some, None, Ok, Err, Result, sym, refl, ap, ◌∙◌, mul-le-mul_left, arith, lit≤, rules}
+use Rattle.std.proofs.Common.{◌≡◌, ℕ, ◌+◌, ◌-◌, ◌*◌, ◌<◌, ◌≤◌, List, length, get_or, Some, Ok, Err, Result, sym, ◌∙◌, mul-le-mul_left, arith, lit≤, rules}
 use borrow.Rule.Slice.PartMut.{put_mid}
 use Rattle.std.proofs.lemmas.List.{places}
 use Rattle.field.specs.Laws.{Operations}
@@ -9,8 +9,8 @@ use Rattle.code.specs.declared.refusal.Refusal.TheVariants.{Bounds, Shape, Lengt
 use Rattle.code.specs.Refusals.{Least, number}
 use Rattle.code.specs.Stripe.{Held, Fits}
 use Rattle.code.specs.Work.{front, WorkAfter, Cleared}
-use Rattle.solve.specs.Answers.{SharedHolds, SharedAt, SharedSymbol, OnlyHolds, OnlyIn, OnlyFile}
-use Rattle.solve.specs.Decisions.{NoForeign, Fails, Decided, DifferAt, TwoFit, OnlyFront, OnlyDecided, FrontIs}
+use Rattle.solve.specs.Answers.{SharedHolds, SharedSymbol, OnlyHolds, OnlyIn}
+use Rattle.solve.specs.Decisions.{NoForeign, Fails, Decided, DifferAt, TwoFit, OnlyFront, FrontIs}
 
 module _ (F : Operations) (code : Code) (held : Held) where
   module _ (row column work : ℕ) (room : front code ≤ work) (inside : (row < code.k) × (column < code.m)) where

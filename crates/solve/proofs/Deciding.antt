@@ -1,23 +1,22 @@
 -- Solutions of the system are the fitting files, and what its form says of them.
-use Rattle.std.proofs.Common.{◌≡◌, ℕ, ◌+◌, ◌*◌, ◌/◌, ◌%◌, ◌<◌, ◌≤◌, Bool, true, false, ◌≢◌, ◌⊎◌, ◌↔◌, List, length, get_or, Some, None, Ok, Err, Option, sym, refl, ap, ◌∙◌, subst, ap₂, inl, inr, arith}
-use native.Mathlib.Decide.{ℕ_discrete, dec_lt}
+use Rattle.std.proofs.Common.{◌≡◌, ℕ, ◌+◌, ◌*◌, ◌/◌, ◌%◌, ◌<◌, ◌≤◌, Bool, ◌↔◌, List, get_or, Some, None, Option, sym, refl, ap, ◌∙◌, subst, ap₂, inl, inr, arith}
+use native.Mathlib.Decide.{dec_lt}
 use Rattle.field.specs.Laws.{Operations, Laws}
-use Rattle.algebra.specs.Sums.{sum}
 use Rattle.algebra.proofs.Numbers as n
 use Rattle.code.specs.declared.record.Code.{Code}
-use Rattle.code.specs.Stripe.{Symbols, Held, IsFile, StripeOf, Fits, width}
+use Rattle.code.specs.Stripe.{Symbols, Held, IsFile, Fits, width}
 use Rattle.theorems.specs.Linear.{IsFactor}
 use Rattle.theorems.proofs.Files.{file_below, same_file, file_from, file_from_has, file_from_is}
 use Rattle.theorems.proofs.Factors.{weighted_sum}
 use Rattle.theorems.proofs.Stripes.{stripe_of, stripe_exists}
-use Rattle.solve.specs.Systems.{entry, Keeps, Solution, Reduced, KnownRows}
-use Rattle.code.specs.Held.{Inside, ForeignAt}
+use Rattle.solve.specs.Systems.{entry, Solution}
+use Rattle.code.specs.Held.{ForeignAt}
 use Rattle.encode.specs.Encoding.{cell_count}
 use Rattle.solve.specs.Cells.{Lists, Loaded, TookAll, Contradicts, Meets, Factors, Vector, cell_of, marked}
 use Rattle.solve.specs.Answers.{SharedAt}
 use Rattle.solve.specs.Decisions.{NoForeign, Complete, NoneMeets, FitsSolve, Lone, DifferAt, TwoFit, OnlyFront}
 use Rattle.solve.proofs.Places.{place_of, place_split, width_positive}
-use Rattle.solve.proofs.Elimination.{keeps_same, base, base_below, base_solves, alone_shared, Differ, free_differs, factor_differs}
+use Rattle.solve.proofs.Elimination.{base_solves, alone_shared, Differ, free_differs, factor_differs}
 use Rattle.solve.proofs.Loading.{loaded_solution}
 use Rattle.solve.proofs.Meeting.{factor_of}
 

@@ -1,19 +1,16 @@
 -- The equations of the data cells that are present.
-use Rattle.std.proofs.Common.{◌≡◌, ℕ, ◌+◌, ◌*◌, ◌/◌, ◌%◌, ◌<◌, ◌≤◌, Bool, true, false, ◌≢◌, ◌⊎◌, List, length, get_or, set, sym, refl, ap, ◌∙◌, subst, ap₂, inl, inr, arith, get_or-set_other, get_or-set_same}
-use native.Mathlib.Decide.{ℕ_discrete, dec_lt}
+use Rattle.std.proofs.Common.{◌≡◌, ℕ, ◌+◌, ◌*◌, ◌/◌, ◌%◌, ◌<◌, ◌≤◌, Bool, true, false, ◌⊎◌, List, length, get_or, set, sym, ap, ◌∙◌, subst, ap₂, inl, inr, arith, get_or-set_other, get_or-set_same}
+use native.Mathlib.Decide.{ℕ_discrete}
 use Rattle.std.proofs.lemmas.List.{length-set}
 use Rattle.field.specs.Laws.{Operations, Laws}
-use Rattle.algebra.specs.Sums.{sum}
 use Rattle.algebra.proofs.Bridge.{zero_below}
-use Rattle.algebra.proofs.Numbers as n
 use Rattle.code.specs.declared.record.Code.{Code}
 use Rattle.code.specs.Stripe.{Symbols, width}
-use Rattle.theorems.specs.Linear.{IsFactor}
 use Rattle.code.proofs.Places.{place_injective, place_below}
 use Rattle.theorems.proofs.Files.{place_node}
 use Rattle.solve.specs.Systems.{entry, Keeps, Solution, Pivot, Empty, Reduced, KnownRows}
 use Rattle.encode.specs.Encoding.{cell_count}
-use Rattle.solve.specs.Cells.{Loaded, LoadedRow, DataMet, DataCell, Meets, Factors, Vector, cell_at, cell_of}
+use Rattle.solve.specs.Cells.{Loaded, LoadedRow, DataMet, Meets, Factors, Vector, cell_at, cell_of}
 use Rattle.solve.proofs.Places.{place_of, place_split, width_positive, few_symbols}
 use Rattle.solve.proofs.Elimination.{keeps_alone, keeps_zeros}
 

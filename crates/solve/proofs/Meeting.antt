@@ -1,15 +1,15 @@
 -- A cell as an equation of the system.
-use Rattle.std.proofs.Common.{◌≡◌, ℕ, ◌+◌, ◌*◌, ◌/◌, ◌%◌, ◌<◌, ◌≤◌, Bool, true, false, ◌≢◌, ◌⊎◌, ◌↔◌, List, length, get_or, sym, refl, ap, ◌∙◌, subst, ap₂, inl, inr, arith}
-use native.Mathlib.Decide.{ℕ_discrete, dec_lt}
+use Rattle.std.proofs.Common.{◌≡◌, ℕ, ◌+◌, ◌*◌, ◌/◌, ◌%◌, ◌<◌, ◌≤◌, Bool, true, false, ◌⊎◌, ◌↔◌, List, get_or, sym, ap, ◌∙◌, subst, inl, inr, arith}
+use native.Mathlib.Decide.{ℕ_discrete}
 use Rattle.field.specs.Laws.{Operations, Laws}
 use Rattle.algebra.specs.Sums.{sum}
 use Rattle.algebra.proofs.Numbers as n
 use Rattle.code.specs.declared.record.Code.{Code}
 use Rattle.code.specs.Stripe.{Symbols, width}
-use Rattle.theorems.specs.Linear.{SingleFile, IsFactor}
+use Rattle.theorems.specs.Linear.{IsFactor}
 use Rattle.theorems.proofs.Files.{single_file}
 use Rattle.theorems.proofs.Stripes.{stripe_of, stripe_exists}
-use Rattle.solve.specs.Systems.{entry, Keeps, Solution, Reduced, KnownRows, Absorbed}
+use Rattle.solve.specs.Systems.{Keeps, Solution, Reduced, KnownRows, Absorbed}
 use Rattle.solve.specs.Factors.{IsEquation}
 use Rattle.encode.specs.Encoding.{cell_count}
 use Rattle.solve.specs.Cells.{Took, TookAll, Contradicts, DataMet, DataCell, Meets, Factors, Vector, cell_of}

@@ -3,8 +3,6 @@ use Rattle.std.proofs.Common.{◌≡◌, ℕ, ◌+◌, ◌-◌, ◌*◌, ◌/◌
 use native.Mathlib.Decide.{ℕ_discrete, dec_lt}
 use Rattle.std.proofs.lemmas.List.{length-set, get_or_past}
 use Rattle.field.specs.Laws.{Operations, Laws, power}
-use Rattle.algebra.specs.Sums.{sum}
-use Rattle.algebra.specs.Vandermonde.{Completes}
 use Rattle.algebra.proofs.Bridge.{zero_below}
 use Rattle.algebra.proofs.Numbers as n
 use Rattle.algebra.proofs.Vandermonde.{vandermonde_completes, plain_points}
@@ -12,13 +10,13 @@ use Rattle.code.specs.declared.record.Code.{Code}
 use Rattle.code.specs.declared.refusal.Refusal.{Refusal}
 use Rattle.code.specs.declared.refusal.Refusal.TheVariants.{Bounds, Shape, Length, Work, Outside, Symbol, Foreign, Lost, Contradiction, Ambiguous, Allowance}
 use Rattle.code.specs.Positions.{behind}
-use Rattle.code.specs.Stripe.{Symbols, IsFile, StripeOf, parity, width}
+use Rattle.code.specs.Stripe.{Symbols, width}
 use Rattle.theorems.specs.Linear.{SingleFile, IsFactor}
 use Rattle.code.proofs.CountedRound.{behind_below}
 use Rattle.code.proofs.Places.{place_below, place_injective}
 use Rattle.theorems.proofs.Files.{place_node}
 use Rattle.theorems.proofs.Ruled.{stripe_ruled, column_from_data, column_syndromes, coded_cell, nodes_positive}
-use Rattle.encode.specs.Encoding.{Encoded, Declined, in_memory, cell_count}
+use Rattle.encode.specs.Encoding.{Encoded, Declined, in_memory}
 use Rattle.solve.specs.Factors.{ColumnOf, ColumnTable, Weight, IsEquation}
 use Rattle.solve.proofs.Places.{few_cells}
 

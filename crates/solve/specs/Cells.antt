@@ -1,5 +1,5 @@
 -- The cells that are present, and which vectors of symbols agree with them.
-use Rattle.std.specs.Prelude.{◌≡◌, ℕ, ◌+◌, ◌*◌, ◌/◌, ◌%◌, ◌<◌, ◌≤◌, Bool, true, false, ◌⊎◌, ◌↔◌, List, length, Some, None, Ok, Err, Option, Result, ◌≢◌, slice_index, slice_index_or}
+use Rattle.std.specs.Prelude.{◌≡◌, ℕ, ◌+◌, ◌*◌, ◌/◌, ◌%◌, ◌<◌, ◌≤◌, Bool, true, false, ◌⊎◌, ◌↔◌, List, Some, None, Ok, Err, Option, Result, ◌≢◌, slice_index, slice_index_or}
 use Rattle.field.specs.Laws.{Operations}
 use Rattle.algebra.specs.Sums.{sum}
 use Rattle.code.specs.declared.record.Code.{Code}

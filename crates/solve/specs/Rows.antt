@@ -1,5 +1,5 @@
 -- Rows of a fixed width, one after the other in a list.
-use Rattle.std.specs.Prelude.{◌≡◌, ℕ, ◌+◌, ◌*◌, ◌<◌, ◌≤◌, cond, List, length, Some, None, Option, ◌≢◌, nat_lt, slice_index}
+use Rattle.std.specs.Prelude.{◌≡◌, ℕ, ◌+◌, ◌*◌, ◌<◌, ◌≤◌, cond, List, Some, None, Option, ◌≢◌, nat_lt, slice_index}
 
 -- a 32-bit number as 16-bit operand: one that does not fit counts as 0
 abbrev pub operand : ℕ → ℕ

@@ -1,7 +1,7 @@
 -- What one write or one loss does to a meaning, for callers of a store.
 use Rattle.std.proofs.Common.{◌≡◌, ℕ, ◌<◌, ◌≤◌, true, false, Option, ap, ◌∙◌, arith}
 use Rattle.std.proofs.lemmas.Bool.Decides.{nat_tests}
-use Rattle.store.specs.Meaning.{Meaning, Cells, Changed, allowed, inside}
+use Rattle.store.specs.Meaning.{Meaning, Cells, Changed, allowed}
 
 -- two meanings with the same parts are equal
 pub same_meaning : (m n : Meaning) → m.nodes ≡ n.nodes → m.columns ≡ n.columns → m.cell ≡ n.cell → m.allowance ≡ n.allowance → m ≡ n

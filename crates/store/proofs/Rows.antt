@@ -5,7 +5,7 @@ use lib.ListN.{get_or-replicate}
 use Rattle.std.proofs.lemmas.Nat.{mul-add-lt, div-mul-add, mod-mul-add}
 use Rattle.std.proofs.lemmas.Bool.{cases_lt, cases_eq}
 use Rattle.std.proofs.lemmas.Bool.Decides.{nat_tests}
-use Rattle.store.specs.Meaning.{Cells, put}
+use Rattle.store.specs.Meaning.{put}
 use Rattle.store.specs.Grids.{grid, told, lost_mark, Markable}
 
 -- a cell inside lies within the nodes · columns numbers of all cells

@@ -1,8 +1,8 @@
 -- What lent bytes hold, from what the card over them keeps.
-use Rattle.std.proofs.Common.{◌≡◌, ℕ, ◌-◌, Bool, true, List, take, drop, None, ap, ◌∙◌}
+use Rattle.std.proofs.Common.{◌≡◌, ℕ, Bool, true, List, take, drop, None, ap, ◌∙◌}
 use Rattle.store.specs.Meaning.{Meaning, Changed}
 use Rattle.card.specs.declared.lent.Card.{Card}
-use Rattle.commands.specs.Commands.{all_inside, card}
+use Rattle.commands.specs.Commands.{all_inside}
 use Rattle.card.specs.Cards.{lent_bytes, commands_of, meaning_of, Later}
 use Rattle.commands.specs.Commands.{TakenUp}
 use Rattle.commands.proofs.Tests.{all_from}

@@ -11,7 +11,6 @@ use Rattle.code.specs.Stripe.{Symbols, IsFile, StripeOf, Fits, parity, width}
 use Rattle.theorems.proofs.Stripes.{one_stripe}
 use Rattle.store.specs.Meaning.{Meaning, Cells}
 use Rattle.stripe.specs.declared.calls.Call.{Call}
-use Rattle.stripe.specs.declared.calls.Call.TheVariants as call
 use Rattle.code.specs.Work.{front}
 use Rattle.stripe.specs.Reasons.{Shaped, lost_cells, ReadHolds, MendAllHolds}
 use Rattle.stripe.specs.Calls.{Read, MendAll, without_node}

@@ -1,6 +1,6 @@
 -- The ledger: what somebody knows of a stripe who is told each call, its arguments and whether it was
 -- accepted, and never sees the store.
-use Rattle.std.specs.Prelude.{◌≡◌, ℕ, ◌+◌, ◌*◌, ◌<◌, Bool, true, false, not, ◌&&◌, ◌||◌, List, [], ◌∷◌, set, Some, None, Ok, Err, Option, Result, ◌==◌, slice_set}
+use Rattle.std.specs.Prelude.{◌≡◌, ℕ, ◌+◌, ◌*◌, ◌<◌, Bool, true, false, not, ◌&&◌, ◌||◌, List, [], ◌∷◌, Some, None, Ok, Err, Option, Result, ◌==◌, slice_set}
 use Rattle.std.specs.Option.{option_map}
 use Rattle.field.specs.Laws.{Operations}
 use Rattle.code.specs.declared.record.Code.{Code}

@@ -1,6 +1,6 @@
 -- Stripes are linear: sums, differences and multiples of stripes are stripes, so each cell of a stripe is
 -- a weighted sum of the file's symbols.
-use Rattle.std.specs.Prelude.{◌≡◌, ℕ, ◌*◌, ◌<◌, List, length, ◌≢◌, slice_index, slice_index_or}
+use Rattle.std.specs.Prelude.{◌≡◌, ℕ, ◌*◌, ◌<◌, List, ◌≢◌, slice_index, slice_index_or}
 use Rattle.field.specs.Laws.{Operations, Laws}
 use Rattle.algebra.specs.Sums.{sum}
 use Rattle.code.specs.declared.record.Code.{Code}

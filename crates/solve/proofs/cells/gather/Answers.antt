@@ -1,4 +1,4 @@
-use Rattle.std.proofs.Common.{◌≡◌, ◌+◌, ◌*◌, ◌/◌, ◌%◌, ◌<◌, ◌≤◌, sym, refl, ap, ◌∙◌, ap₂, arith}
+use Rattle.std.proofs.Common.{◌≡◌, ◌*◌, sym, ap, ◌∙◌, ap₂, arith}
 use Rattle.encode.specs.Encoding.{cell_count}
 use Rattle.solve.proofs.Places.{few_cells}
 use Rattle.solve.proofs.Gathering.{foreign_answer}

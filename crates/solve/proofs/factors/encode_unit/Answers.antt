@@ -1,4 +1,4 @@
-use Rattle.std.proofs.Common.{◌≡◌, ◌+◌, ◌*◌, ◌<◌, sym, refl, ap, ◌∙◌, arith, rules}
+use Rattle.std.proofs.Common.{◌≡◌, ◌*◌, ap, arith, rules}
 use Rattle.code.proofs.Places.{place_below}
 use Rattle.solve.proofs.UnitFiles.{unit_encoded}
 use Rattle.solve.proofs.factors.encode_unit.Goals as goal

@@ -1,4 +1,4 @@
-use Rattle.std.proofs.Common.{◌≡◌, ℕ, ◌+◌, ◌-◌, ◌*◌, ◌<◌, ◌≤◌, length, get_or, set, sym, refl, ap, ◌∙◌, subst, ap₂, arith}
+use Rattle.std.proofs.Common.{set, sym, subst, arith}
 use Rattle.solve.specs.Factors.{IsEquation}
 use Rattle.solve.proofs.UnitFiles.{equation_step, equation_made}
 use Rattle.solve.proofs.factors.equation.Goals as goal

@@ -1,4 +1,4 @@
-use Rattle.std.proofs.Common.{◌≡◌, ℕ, ◌+◌, ◌-◌, ◌*◌, ◌<◌, ◌≤◌, length, get_or, sym, refl, ap, ◌∙◌, ap₂, arith}
+use Rattle.std.proofs.Common.{◌≡◌, ℕ, ◌+◌, ◌*◌, ◌<◌, get_or, sym, ap, ◌∙◌, arith}
 use Rattle.code.proofs.Places.{place_below}
 use Rattle.solve.proofs.UnitFiles.{factor_step}
 use Rattle.solve.proofs.factors.put_factors.Goals as goal

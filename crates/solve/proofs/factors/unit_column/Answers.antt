@@ -1,4 +1,4 @@
-use Rattle.std.proofs.Common.{◌≡◌, ℕ, ◌+◌, ◌*◌, ◌<◌, length, get_or, sym, refl, ap, ◌∙◌, arith}
+use Rattle.std.proofs.Common.{◌≡◌, ℕ, ◌*◌, ◌<◌, get_or, refl, ap, arith}
 use Rattle.code.specs.Stripe.{width}
 use Rattle.code.proofs.Places.{place_below}
 use Rattle.solve.proofs.Places.{few_cells, width_positive}

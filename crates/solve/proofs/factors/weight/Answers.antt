@@ -1,4 +1,4 @@
-use Rattle.std.proofs.Common.{◌≡◌, ◌+◌, ◌-◌, ◌*◌, ◌<◌, ◌≤◌, sym, refl, ap, ◌∙◌, arith}
+use Rattle.std.proofs.Common.{arith}
 use Rattle.solve.proofs.UnitFiles.{weight_same, weight_other, weight_coded}
 use Rattle.solve.proofs.factors.weight.Goals as goal
 

@@ -1,4 +1,3 @@
-use Rattle.std.proofs.Common.{◌≡◌, ◌∙◌, ap₂}
 use Rattle.solve.proofs.Memory.{sub_operand}
 use Rattle.solve.proofs.numbers.minus.Goals as goal
 

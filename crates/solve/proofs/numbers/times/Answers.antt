@@ -1,4 +1,3 @@
-use Rattle.std.proofs.Common.{◌≡◌, ◌∙◌, ap₂}
 use Rattle.solve.proofs.Memory.{mul_operand}
 use Rattle.solve.proofs.numbers.times.Goals as goal
 

@@ -1,4 +1,4 @@
-use Rattle.std.proofs.Common.{◌≡◌, Some, sym, refl, subst, inl, inr, arith}
+use Rattle.std.proofs.Common.{Some, sym, refl, subst, inl, inr, arith}
 use Rattle.std.proofs.lemmas.Bool.{cases_eq}
 use Rattle.solve.specs.Systems.{entry}
 use Rattle.solve.specs.Decisions.{Lone}

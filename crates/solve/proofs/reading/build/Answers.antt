@@ -1,7 +1,6 @@
-use Rattle.std.proofs.Common.{◌≡◌, ℕ, ◌+◌, ◌-◌, ◌*◌, ◌/◌, ◌%◌, ◌<◌, ◌≤◌, Bool, true, false, length, get_or, set, replicate, sym, refl, ap, ◌∙◌, subst, ap₂, arith, length-set, rules}
+use Rattle.std.proofs.Common.{false, replicate, arith, rules}
 use Rattle.std.proofs.lemmas.List.{get_or-replicate}
-use Rattle.solve.specs.Systems.{entry}
-use Rattle.solve.proofs.Places.{few_cells, few_symbols}
+use Rattle.solve.proofs.Places.{few_symbols}
 use Rattle.solve.proofs.Loading.{load_none, loaded_reduced, loaded_known, loaded_met}
 use Rattle.solve.proofs.Deciding.{taken_complete, taken_none}
 use Rattle.solve.proofs.reading.build.Goals as goal

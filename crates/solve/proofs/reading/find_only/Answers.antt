@@ -1,4 +1,4 @@
-use Rattle.std.proofs.Common.{◌≡◌, ℕ, ◌+◌, ◌*◌, ◌<◌, ◌≤◌, length, get_or, Some, None, sym, refl, ap, ◌∙◌, subst, arith}
+use Rattle.std.proofs.Common.{◌≡◌, ℕ, ◌+◌, ◌*◌, ◌<◌, ◌≤◌, length, get_or, Some, None, sym, ◌∙◌, subst, arith}
 use Rattle.solve.specs.Systems.{entry}
 use Rattle.solve.specs.Decisions.{Lone}
 use Rattle.solve.proofs.Places.{few_symbols}

@@ -1,4 +1,4 @@
-use Rattle.std.proofs.Common.{◌+◌, ◌*◌, ◌<◌, arith}
+use Rattle.std.proofs.Common.{◌+◌, ◌<◌, arith}
 use Rattle.solve.proofs.Memory.{row_inside}
 use Rattle.solve.proofs.reading.lone.Goals as goal
 

@@ -1,4 +1,4 @@
-use Rattle.std.proofs.Common.{◌≡◌, ◌+◌, ◌*◌, ◌<◌, refl, arith}
+use Rattle.std.proofs.Common.{◌+◌, ◌*◌, ◌<◌, arith}
 use Rattle.solve.specs.Systems.{entry}
 use Rattle.solve.proofs.Memory.{row_inside, front_more, right_behind}
 use Rattle.solve.proofs.reading.move_right_sides.Goals as goal

@@ -1,4 +1,4 @@
-use Rattle.std.proofs.Common.{◌≡◌, sym, refl, ap, ◌∙◌, rules}
+use Rattle.std.proofs.Common.{rules}
 use Rattle.solve.proofs.Deciding.{complete_solves, none_fits, listed_proper, listed_symbols}
 use Rattle.solve.proofs.reading.solve.Goals as goal
 

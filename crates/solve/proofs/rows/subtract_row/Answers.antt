@@ -1,4 +1,4 @@
-use Rattle.std.proofs.Common.{◌≡◌, ◌+◌, ◌*◌, ◌<◌, length, get_or, ap, ◌∙◌, ap₂, inl, inr, arith}
+use Rattle.std.proofs.Common.{◌≡◌, ◌+◌, ◌*◌, ◌<◌, get_or, inl, inr, arith}
 use Rattle.solve.proofs.Memory.{row_more, rows_apart}
 use Rattle.solve.proofs.rows.subtract_row.Goals as goal
 

@@ -1,5 +1,4 @@
-use Rattle.solve.specs.Rows.{RowIs}
-use Rattle.std.proofs.Common.{ℕ, ◌+◌, ◌*◌, ◌<◌, ◌≤◌, get_or}
+use Rattle.std.proofs.Common.{◌+◌, ◌*◌, get_or}
 use Rattle.solve.proofs.Memory.{RowUpTo}
 use Rattle.solve.proofs.rows.subtract_row.Given as goal
 

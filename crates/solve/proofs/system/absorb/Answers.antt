@@ -1,4 +1,4 @@
-use Rattle.std.proofs.Common.{◌≡◌, get_or, refl}
+use Rattle.std.proofs.Common.{get_or, refl}
 use Rattle.solve.specs.Systems.{entry}
 use Rattle.solve.proofs.Steps.{absorbed_none, absorbed_some}
 use Rattle.solve.proofs.system.absorb.Goals as goal

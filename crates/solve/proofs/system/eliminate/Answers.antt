@@ -1,4 +1,4 @@
-use Rattle.std.proofs.Common.{◌≡◌, ◌+◌, ◌-◌, ◌*◌, ◌<◌, ◌≤◌, length, sym, refl, ◌∙◌, arith}
+use Rattle.std.proofs.Common.{◌+◌, ◌<◌, refl, arith}
 use Rattle.solve.proofs.Memory.{row_inside}
 use Rattle.solve.proofs.Steps.{OutUpTo, out_skip, out_pass, out_row}
 use Rattle.solve.proofs.system.eliminate.Goals as goal

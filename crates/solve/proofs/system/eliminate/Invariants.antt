@@ -1,4 +1,4 @@
-use Rattle.std.proofs.Common.{◌+◌, ◌-◌, ◌≤◌}
+use Rattle.std.proofs.Common.{◌-◌, ◌≤◌}
 use Rattle.solve.proofs.Steps.{OutUpTo}
 use Rattle.solve.proofs.system.eliminate.Given as goal
 

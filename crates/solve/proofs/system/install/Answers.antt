@@ -1,5 +1,4 @@
-use Rattle.std.proofs.Common.{◌≡◌, ◌+◌, ◌-◌, ◌*◌, ◌<◌, ◌≤◌, length, get_or, sym, ap, ◌∙◌, arith}
-use Rattle.solve.specs.Systems.{entry}
+use Rattle.std.proofs.Common.{◌+◌, ◌<◌, arith}
 use Rattle.solve.proofs.Memory.{row_inside}
 use Rattle.solve.proofs.Steps.{scaled_below, installed}
 use Rattle.solve.proofs.system.install.Goals as goal

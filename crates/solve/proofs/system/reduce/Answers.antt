@@ -1,4 +1,4 @@
-use Rattle.std.proofs.Common.{◌≡◌, ℕ, ◌+◌, ◌-◌, ◌*◌, ◌<◌, ◌≤◌, length, get_or, sym, ap, ◌∙◌, inl, inr, arith}
+use Rattle.std.proofs.Common.{ℕ, ◌+◌, ◌<◌, get_or, inl, inr, arith}
 use Rattle.solve.specs.Systems.{entry}
 use Rattle.solve.proofs.Memory.{row_inside}
 use Rattle.solve.proofs.Steps.{remainder_skip, remainder_take}

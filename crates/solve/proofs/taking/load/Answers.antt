@@ -1,4 +1,4 @@
-use Rattle.std.proofs.Common.{◌≡◌, ℕ, ◌+◌, ◌-◌, ◌*◌, ◌/◌, ◌%◌, ◌<◌, ◌≤◌, true, length, get_or, set, sym, refl, ap, ◌∙◌, subst, ap₂, arith, length-set}
+use Rattle.std.proofs.Common.{◌≡◌, ◌+◌, ◌*◌, ◌/◌, ◌%◌, ◌<◌, true, get_or, set, sym, ap, subst, arith, length-set}
 use Rattle.code.proofs.Places.{place_below}
 use Rattle.solve.specs.Cells.{cell_at, Loaded}
 use Rattle.solve.proofs.Places.{few_cells, few_symbols}

@@ -1,8 +1,8 @@
-use Rattle.std.proofs.Common.{◌≡◌, ℕ, ◌+◌, ◌-◌, ◌*◌, ◌/◌, ◌%◌, ◌<◌, ◌≤◌, length, get_or, set, sym, refl, ap, ◌∙◌, subst, ap₂, inl, inr, arith, length-set}
+use Rattle.std.proofs.Common.{◌≡◌, ◌+◌, ◌*◌, ◌/◌, ◌%◌, ◌<◌, length, get_or, sym, subst, arith}
 use Rattle.code.specs.Stripe.{width}
 use Rattle.solve.specs.Systems.{entry, Reduced, KnownRows}
 use Rattle.solve.proofs.Places.{few_cells, few_symbols, place_of, width_positive}
-use Rattle.solve.proofs.Meeting.{took_cell, took_none, equation_below}
+use Rattle.solve.proofs.Meeting.{took_cell, equation_below}
 use Rattle.solve.proofs.taking.take_cell.Goals as goal
 
 pub bounds-cells-x : goal.bounds-cells-x

@@ -1,4 +1,4 @@
-use Rattle.std.proofs.Common.{◌≡◌, ℕ, ◌+◌, ◌-◌, ◌*◌, ◌/◌, ◌%◌, ◌<◌, ◌≤◌, sym, refl, ap, ◌∙◌, subst, ap₂, arith}
+use Rattle.std.proofs.Common.{◌≡◌, ℕ, ◌*◌, ap₂, arith}
 use Rattle.solve.specs.Systems.{entry}
 use Rattle.solve.proofs.Meeting.{took_start, took_more, took_stop}
 use Rattle.solve.proofs.taking.take_cells.Goals as goal
