@@ -22,7 +22,7 @@ pub trait Field {
     // The generator α: its powers α^0 to α^127 are all different.
     const GENERATOR: u16;
 
-    // The constant SIZE. No clause can name a constant, so this ties it to the operations.
+    // The constant SIZE, as a function: its clause ties the constant to the operations.
     fn order() -> u32
         ensures { result ≡ ops.q };
 
