@@ -1,4 +1,4 @@
--- The laws of a field and of its sums, over numbers. They hold at any numbers, since an operand of q or more counts as 0;
+-- The laws of a field and of its sums, over numbers. They hold at any numbers, since operands of q or more are taken for 0;
 -- `u < F.q` is a premise only where u itself is a side of the equation.
 use Rattle.std.proofs.Common.{◌≡◌, ℕ, zero, suc, ◌+◌, ◌*◌, ◌<◌, ◌⊎◌, sym, refl, ap, ◌∙◌, ap₂, inl, inr, add-one, arith}
 use native.Mathlib.Nat as nat

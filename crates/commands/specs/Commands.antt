@@ -12,7 +12,7 @@ letter_w = 87
 abbrev pub letter_l : ℕ
 letter_l = 76
 
--- The bytes of a command: W, node, column and the symbol in two bytes, high first; or L, node and column.
+-- The bytes of a command: W, the node, the column, the high byte of the symbol and the low one; or L, the node, the column.
 abbrev pub bytes_of : Command → List ℕ
 bytes_of (Write node column symbol) = letter_w ∷ node ∷ column ∷ symbol / 256 ∷ symbol % 256 ∷ []
 bytes_of (Lose node column) = letter_l ∷ node ∷ column ∷ []

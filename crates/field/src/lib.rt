@@ -22,11 +22,11 @@ pub trait Field {
     // The generator α: its powers α^0 to α^127 are all different.
     const GENERATOR: u16;
 
-    // The constant SIZE, as a function: its clause ties the constant to the operations.
+    // The size q of the operations. Both fields return their SIZE, which this proves to be q.
     fn order() -> u32
         ensures { result ≡ ops.q };
 
-    // The constant GENERATOR, tied in the same way.
+    // The generator α of the operations. Both fields return their GENERATOR, in the same way.
     fn alpha() -> u16
         ensures { result ≡ ops.α };
 

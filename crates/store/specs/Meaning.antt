@@ -25,7 +25,7 @@ pub record Lawful (m : Meaning) : Type 0 where
 abbrev pub Blank : Meaning → Type 0
 Blank m = (j c : ℕ) → j < m.nodes → c < m.columns → m.cell j c ≡ None
 
--- A write or a loss of a cell is taken if the cell is inside and the allowance is at least 1.
+-- A write or a loss is taken where there is such a cell and the allowance is not used up.
 abbrev pub allowed : Meaning → ℕ → ℕ → Bool
 allowed m j c = inside m j c && nat_lt 0 m.allowance
 
@@ -34,8 +34,8 @@ abbrev pub put : Cells → ℕ → ℕ → Option ℕ → Cells
 put f j c v i d = cond (i == j && d == c) v (f i d)
 
 -- What a write (v is Some of the number) or a loss (v is None) of one cell leaves, and whether it says
--- that it was taken. Taken, only that cell changes, and the allowance is the same or one less.
--- Not taken, nothing changes: `most` and `least` then say that the allowance is equal.
+-- that it was taken. Taken, it changes that cell alone, and takes 1 off the allowance, or nothing.
+-- Not taken, it changes nothing: `most` and `least` then say that the allowance is equal.
 pub record Changed (before : Meaning) (j c : ℕ) (v : Option ℕ) (taken : Bool) (after : Meaning) : Type 0 where
   pub answer : taken ≡ allowed before j c
   pub nodes : after.nodes ≡ before.nodes
