@@ -1,7 +1,7 @@
 // The commands of a card as bytes, a walk over them, and the check of a card.
 #![tactic(auto)]
 
-ghost use Rattle.std.specs.Prelude.{◌≡◌, ◌<◌, if◌then◌else◌, MatchResult};
+ghost use Rattle.std.specs.Prelude.{◌≡◌, ◌<◌, true, if◌then◌else◌, MatchResult};
 ghost use Rattle.store.specs.Sizes.{counted_columns, counted_nodes};
 ghost use Rattle.commands.specs.Commands.{node_of, column_of, value_of, is_on, TwoBytes, Inside, ReadsBack, OneReading};
 ghost use Rattle.commands.specs.Faults.{number, place, Begins, Faulty, Checked, Agrees};
@@ -92,10 +92,11 @@ impl Command {
 }
 
 // Commands written as bytes and read back are the same commands, and bytes can be read in one way only.
-// It holds of all lists of commands, so a card needs no marks between them.
+// It holds of all lists of commands, so a card needs no marks between them. The answer is always `true`.
 pub fn reading_stands() -> bool
     ensures back { ReadsBack }
     ensures single { OneReading }
+    ensures answer { result ≡ true }
 {
     true
 }
