@@ -35,7 +35,8 @@ later_on : (nodes columns j c : ℕ) (y x : Option Command) → OnOf nodes colum
 later_on nodes columns j c (Some y) x p q = p
 later_on nodes columns j c None x p q = q
 
-found_on : (nodes columns j c : ℕ) (x : Command) (b : Bool) → is_inside nodes columns x ≡ true → is_on x j c ≡ b → OnOf nodes columns j c (cond b (Some x) None)
+found_on : (nodes columns j c : ℕ) (x : Command) (b : Bool) → is_inside nodes columns x ≡ true → is_on x j c ≡ b
+    → OnOf nodes columns j c (cond b (Some x) None)
 found_on nodes columns j c x true h o = on_from nodes columns j c x h o
 found_on nodes columns j c x false h o = tt
 
@@ -43,9 +44,11 @@ latest_on : (nodes columns j c : ℕ) (xs : List Command) → all_inside nodes c
 latest_on nodes columns j c [] h = tt
 latest_on nodes columns j c (x ∷ xs) h =
     let p = and_parts (is_inside nodes columns x) (all_inside nodes columns xs) h in
-    later_on nodes columns j c (latest xs j c) (cond (is_on x j c) (Some x) None) (latest_on nodes columns j c xs p.1) (found_on nodes columns j c x (is_on x j c) p.0 refl)
+    later_on nodes columns j c (latest xs j c) (cond (is_on x j c) (Some x) None)
+    (latest_on nodes columns j c xs p.1) (found_on nodes columns j c x (is_on x j c) p.0 refl)
 
-outside_none : (nodes columns j c : ℕ) (o : Option Command) → OnOf nodes columns j c o → (nat_lt j nodes && nat_lt c columns) ≡ false → left_by o None ≡ None
+outside_none : (nodes columns j c : ℕ) (o : Option Command) → OnOf nodes columns j c o
+    → (nat_lt j nodes && nat_lt c columns) ≡ false → left_by o None ≡ None
 outside_none nodes columns j c (Some x) h e =
     let z : true ≡ false = sym (and_from (nat_lt j nodes) (nat_lt c columns) h.node h.column) ∙ e in
     let n : ◌≡◌ {A = ℕ} 0 1 = cc in

@@ -22,7 +22,8 @@ const WIDEST: usize = 5;
 
 // What the latest command on a cell leaves there, in one walk over all commands.
 fn find_cell(nodes: usize, columns: usize, bytes: &[u8], j: usize, c: usize) -> Option<u16>
-    requires { (bytes.now ≡ all_bytes (commands_in bytes.now)) × (all_inside nodes columns (commands_in bytes.now) ≡ true) }
+    requires { (bytes.now ≡ all_bytes (commands_in bytes.now))
+        × (all_inside nodes columns (commands_in bytes.now) ≡ true) }
     ensures { result ≡ cells (commands_in bytes.now) j c }
 {
     let mut found = None;
@@ -36,7 +37,8 @@ fn find_cell(nodes: usize, columns: usize, bytes: &[u8], j: usize, c: usize) -> 
 
 // The length of the longest beginning of the bytes that is made of whole commands on cells inside.
 fn good_length(nodes: usize, columns: usize, bytes: &[u8]) -> usize
-    ensures { (xs : List Command) × Longest (counted_nodes nodes columns) (counted_columns columns) bytes.now result xs }
+    ensures { (xs : List Command)
+        × Longest (counted_nodes nodes columns) (counted_columns columns) bytes.now result xs }
 {
     match check_card(nodes, columns, bytes) {
         Ok(_) => bytes.len(),
@@ -47,7 +49,8 @@ fn good_length(nodes: usize, columns: usize, bytes: &[u8]) -> usize
 impl<'a> Card<'a> {
     // A card with no commands. The bytes stay as they are, and all of them are free.
     pub fn blank(nodes: usize, columns: usize, memory: &'a mut [u8]) -> Card<'a>
-        ensures means { meaning_of result ≡ card [] (counted_nodes nodes columns) (counted_columns columns) (length memory.old) }
+        ensures means { meaning_of result
+            ≡ card [] (counted_nodes nodes columns) (counted_columns columns) (length memory.old) }
         ensures blank { Blank (meaning_of result) }
         ensures held { (lent_bytes result ≡ memory.old) × (used_part result ≡ []) }
         ensures named { result.bytes.ghost_name ≡ memory.entry.ghost_name }
@@ -63,7 +66,8 @@ impl<'a> Card<'a> {
     // A card with the commands that the memory begins with, as far as they are whole and on cells inside.
     // The rest of the bytes is free.
     pub fn take_up(nodes: usize, columns: usize, memory: &'a mut [u8]) -> Card<'a>
-        ensures taken { TakenUp (counted_nodes nodes columns) (counted_columns columns) memory.old result.used (meaning_of result) }
+        ensures taken { TakenUp (counted_nodes nodes columns) (counted_columns columns) memory.old result.used
+            (meaning_of result) }
         ensures held { lent_bytes result ≡ memory.old }
         ensures named { result.bytes.ghost_name ≡ memory.entry.ghost_name }
     {

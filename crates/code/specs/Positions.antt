@@ -1,4 +1,4 @@
--- Nodes counted round: ⟨v⟩ is the remainder of v by n, from 0 to n − 1, also for a v below 0.
+-- Nodes counted round: ⟨v⟩ is the one node that differs from v by a multiple of n, whatever the sign of v.
 use Rattle.std.specs.Prelude.{◌≡◌, ℕ, ◌+◌, ◌-◌, ◌%◌, ◌<◌}
 
 -- ⟨v + s⟩, the node s places ahead of v

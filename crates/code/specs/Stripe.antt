@@ -17,7 +17,7 @@ parity code = code.n - code.k
 abbrev pub width : Code → ℕ
 width code = code.m + code.a
 
--- Column rule: for each data column t and each i < r, the sum over all nodes j of α^(i·j) · x(j, t) is 0.
+-- Column rule: taken over all nodes j, the symbols α^(i·j) · x(j, t) sum up to 0, for each data column t and each i < r.
 abbrev pub ColumnRule : Operations → Code → Symbols → Type 0
 ColumnRule F code x =
     (t i : ℕ) → t < code.m → i < parity code
@@ -63,4 +63,5 @@ pub record Fits (F : Operations) (code : Code) (held : Held) (file : List ℕ) :
 abbrev pub OneStripe : Type 0
 OneStripe =
     (F : Operations) → Laws F → (code : Code) (file : List ℕ) → IsFile F code file
-    → ((x : Symbols) × StripeOf F code file x) × ((x y : Symbols) → StripeOf F code file x → StripeOf F code file y → SameCells code x y)
+    → ((x : Symbols) × StripeOf F code file x)
+    × ((x y : Symbols) → StripeOf F code file x → StripeOf F code file y → SameCells code x y)

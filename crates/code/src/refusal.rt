@@ -7,7 +7,7 @@
 pub enum Refusal {
     // 1: the bounds of the code record are broken
     Bounds,
-    // 2: the store has not n nodes and m + a columns
+    // 2: the nodes of the store are not n, or its columns are not m + a
     Shape,
     // 3: the file's length is not k·m
     Length,
@@ -15,9 +15,9 @@ pub enum Refusal {
     Work,
     // 5: a node, a row or a column is outside
     Outside,
-    // 6: a given symbol is q or more
+    // 6: a symbol that was handed over is q or more
     Symbol,
-    // 7: a present cell holds q or more
+    // 7: a cell that is present has a number of q or more
     Foreign { node: usize, column: usize },
     // 8: a needed cell is lost
     Lost { node: usize, column: usize },
@@ -25,6 +25,6 @@ pub enum Refusal {
     Contradiction,
     // 10: ambiguous, two fitting files differ
     Ambiguous,
-    // 11: the allowance is below the number of cells to be written or lost
+    // 11: the call needs more changes than the allowance promises
     Allowance,
 }

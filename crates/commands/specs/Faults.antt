@@ -25,7 +25,8 @@ NoLetter bytes = (0 < length bytes) × (slice_index bytes 0 ≢ letter_w) × (sl
 -- there are fewer bytes than the letter asks for, or none at all
 abbrev pub CutShort : List ℕ → Type 0
 CutShort bytes =
-    (length bytes ≡ 0) ⊎ (((slice_index bytes 0 ≡ letter_w) × (length bytes < 5)) ⊎ ((slice_index bytes 0 ≡ letter_l) × (length bytes < 3)))
+    (length bytes ≡ 0)
+    ⊎ (((slice_index bytes 0 ≡ letter_w) × (length bytes < 5)) ⊎ ((slice_index bytes 0 ≡ letter_l) × (length bytes < 3)))
 
 -- the bytes begin with a whole command, but its cell is outside
 pub record NoCell (nodes columns : ℕ) (bytes : List ℕ) : Type 0 where

@@ -110,7 +110,8 @@ fn on_cell(
     rest: &[u8],
 ) -> Result<(Command, &[u8]), CardFault>
     requires { TwoBytes (value_of command) }
-    ensures { MatchResult result (λ p. (p.0 ≡ command) × (p.1.now ≡ rest.now) × Inside nodes columns command) (λ f. (f ≡ CardFault.Outside at) × ((node_of command < nodes) × (column_of command < columns) → ⊥)) }
+    ensures { MatchResult result (λ p. (p.0 ≡ command) × (p.1.now ≡ rest.now) × Inside nodes columns command)
+        (λ f. (f ≡ CardFault.Outside at) × ((node_of command < nodes) × (column_of command < columns) → ⊥)) }
 {
     if command.node() < nodes && command.column() < columns {
         Ok((command, rest))
@@ -127,7 +128,8 @@ pub fn next_command(
     at: usize,
     bytes: &[u8],
 ) -> Result<(Command, &[u8]), CardFault>
-    ensures { MatchResult result (λ p. Begins nodes columns bytes.now p.0 p.1.now) (λ f. Faulty nodes columns at bytes.now f) }
+    ensures { MatchResult result (λ p. Begins nodes columns bytes.now p.0 p.1.now)
+        (λ f. Faulty nodes columns at bytes.now f) }
 {
     match bytes {
         [b'W', node, column, high, low, rest @ ..] => {

@@ -18,4 +18,5 @@ column_sum F i column = sum F (length column) (λ j. F.mul (power F F.α (i * j)
 -- the vector y has the targets as its syndromes at the points
 abbrev pub Reaches : Operations → List ℕ → List ℕ → List ℕ → Type 0
 Reaches F points targets y =
-    (i : ℕ) → i < length points → syndrome F (length points) (λ v. slice_index points v) (λ v. slice_index y v) i ≡ slice_index targets i
+    (i : ℕ) → i < length points
+    → syndrome F (length points) (λ v. slice_index points v) (λ v. slice_index y v) i ≡ slice_index targets i

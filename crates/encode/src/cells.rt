@@ -74,7 +74,8 @@ fn write_node<F: Field>(code: &Code, weights: &[u16], columns: &[u16], v: usize,
     requires columns { length columns.now ≡ 512 }
     requires node { v < code.now.n }
     requires row { length row.old ≡ width code.now }
-    ensures { (c : ℕ) → c < width code.now → slice_index row.new c ≡ cell_of F.ops code.now (in_columns columns.now) v c }
+    ensures { (c : ℕ) → c < width code.now
+        → slice_index row.new c ≡ cell_of F.ops code.now (in_columns columns.now) v c }
 {
     for (c, x) in row.iter_mut().enumerate() {
         *x = cell::<F>(code, weights, columns, v, c);
@@ -87,7 +88,8 @@ pub(crate) fn write_nodes<F: Field>(code: &Code, points: &[u16], columns: &[u16]
     requires powers { PowersOf F.ops F.ops.α points.now }
     requires columns { length columns.now ≡ 512 }
     requires room { cell_count code.now ≤ length cells.old }
-    ensures written { (v c : ℕ) → v < code.now.n → c < width code.now → in_memory code.now cells.new v c ≡ cell_of F.ops code.now (in_columns columns.now) v c }
+    ensures written { (v c : ℕ) → v < code.now.n → c < width code.now
+        → in_memory code.now cells.new v c ≡ cell_of F.ops code.now (in_columns columns.now) v c }
     ensures kept { (p : ℕ) → cell_count code.now ≤ p → slice_index cells.new p ≡ slice_index cells.old p }
 {
     let mut weights = [0u16; 24];

@@ -42,7 +42,10 @@ fn set_targets<F: Field>(code: &Code, i: usize, weights: &[u16], columns: &mut [
     requires place { i < parity code.now }
     requires weights { code.now.k ≤ length weights.now }
     requires columns { length columns.old ≡ 512 }
-    ensures made { (t : ℕ) → t < code.now.m → in_columns columns.new (code.now.k + i) t ≡ F.ops.sub 0 (sum F.ops code.now.k (λ j. F.ops.mul (slice_index weights.now j) (in_columns columns.old j t))) }
+    ensures made { (t : ℕ) → t < code.now.m
+        → in_columns columns.new (code.now.k + i) t
+        ≡ F.ops.sub 0
+        (sum F.ops code.now.k (λ j. F.ops.mul (slice_index weights.now j) (in_columns columns.old j t))) }
     ensures kept { (j t : ℕ) → j < 64 → (j ≢ code.now.k + i) → in_columns columns.new j t ≡ in_columns columns.old j t }
 {
     let k = code.data_nodes();
@@ -58,7 +61,8 @@ fn all_targets<F: Field>(code: &Code, points: &[u16], columns: &mut [u16])
     requires long { length points.now ≡ 64 }
     requires powers { PowersOf F.ops F.ops.α points.now }
     requires columns { length columns.old ≡ 512 }
-    ensures made { (i t : ℕ) → i < parity code.now → t < code.now.m → in_columns columns.new (code.now.k + i) t ≡ target F.ops code.now (in_columns columns.old) i t }
+    ensures made { (i t : ℕ) → i < parity code.now → t < code.now.m
+        → in_columns columns.new (code.now.k + i) t ≡ target F.ops code.now (in_columns columns.old) i t }
     ensures kept { SameData code.now (in_columns columns.new) (in_columns columns.old) }
 {
     let mut weights = [0u16; 64];
@@ -73,9 +77,13 @@ fn solve_all<F: Field>(code: &Code, points: &[u16], columns: &mut [u16])
     requires long { length points.now ≡ 64 }
     requires powers { PowersOf F.ops F.ops.α points.now }
     requires columns { length columns.old ≡ 512 }
-    requires targets { (i t : ℕ) → i < parity code.now → t < code.now.m → in_columns columns.old (code.now.k + i) t < F.ops.q }
-    ensures reached { (i t : ℕ) → i < parity code.now → t < code.now.m → syndrome F.ops (parity code.now) (λ v. power F.ops F.ops.α (code.now.k + v)) (λ v. in_columns columns.new (code.now.k + v) t) i ≡ in_columns columns.old (code.now.k + i) t }
-    ensures below { (v t : ℕ) → v < parity code.now → t < code.now.m → in_columns columns.new (code.now.k + v) t < F.ops.q }
+    requires targets { (i t : ℕ) → i < parity code.now → t < code.now.m
+        → in_columns columns.old (code.now.k + i) t < F.ops.q }
+    ensures reached { (i t : ℕ) → i < parity code.now → t < code.now.m
+        → syndrome F.ops (parity code.now) (λ v. power F.ops F.ops.α (code.now.k + v))
+        (λ v. in_columns columns.new (code.now.k + v) t) i ≡ in_columns columns.old (code.now.k + i) t }
+    ensures below { (v t : ℕ) → v < parity code.now → t < code.now.m
+        → in_columns columns.new (code.now.k + v) t < F.ops.q }
     ensures kept { SameData code.now (in_columns columns.new) (in_columns columns.old) }
 {
     let k = code.data_nodes();

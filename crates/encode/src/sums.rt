@@ -34,7 +34,9 @@ pub(crate) fn powers<F: Field>(base: u16, out: &mut [u16])
 // The sum over the column's symbols of weights[j] · column[j].
 pub(crate) fn weighted_sum<F: Field>(weights: &[u16], column: &[u16]) -> u16
     requires { length column.now ≤ length weights.now }
-    ensures { result ≡ sum F.ops (length column.now) (λ j. F.ops.mul (slice_index weights.now j) (slice_index column.now j)) }
+    ensures { result
+        ≡ sum F.ops (length column.now)
+        (λ j. F.ops.mul (slice_index weights.now j) (slice_index column.now j)) }
 {
     let mut sum = 0;
     for (j, x) in column.iter().enumerate() {

@@ -8,7 +8,9 @@ use field::Field;
 // Targets for the points without the first one, z: each target but the first loses z times the one before it.
 fn reduce<F: Field>(z: u16, targets: &mut [u16])
     ensures first { slice_index targets.new 0 ≡ slice_index targets.old 0 }
-    ensures rest { (i : ℕ) → i + 1 < length targets.old → slice_index targets.new (i + 1) ≡ F.ops.sub (slice_index targets.old (i + 1)) (F.ops.mul z (slice_index targets.old i)) }
+    ensures rest { (i : ℕ) → i + 1 < length targets.old
+        → slice_index targets.new (i + 1)
+        ≡ F.ops.sub (slice_index targets.old (i + 1)) (F.ops.mul z (slice_index targets.old i)) }
 {
     for i in (1..targets.len()).rev() {
         targets[i] = F::difference(targets[i], F::product(z, targets[i - 1]));
@@ -21,7 +23,10 @@ fn lift<F: Field>(points: &[u16], targets: &mut [u16])
     requires long { length points.now ≡ length targets.old }
     requires some { 0 < length targets.old }
     requires target { slice_index targets.old 0 < F.ops.q }
-    ensures rest { (v : ℕ) → v + 1 < length targets.old → slice_index targets.new (v + 1) ≡ F.ops.mul (slice_index targets.old (v + 1)) (F.ops.inv (F.ops.sub (slice_index points.now (v + 1)) (slice_index points.now 0))) }
+    ensures rest { (v : ℕ) → v + 1 < length targets.old
+        → slice_index targets.new (v + 1)
+        ≡ F.ops.mul (slice_index targets.old (v + 1))
+        (F.ops.inv (F.ops.sub (slice_index points.now (v + 1)) (slice_index points.now 0))) }
     ensures sums { sum F.ops (length targets.old) (λ v. slice_index targets.new v) ≡ slice_index targets.old 0 }
     ensures below { slice_index targets.new 0 < F.ops.q }
 {

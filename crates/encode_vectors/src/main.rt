@@ -69,7 +69,7 @@ fn cell(code: &Code, cells: &[u16], j: usize, c: usize) -> u16 {
     }
 }
 
-// The sum over all nodes j of α^(i·j) · x(j, t), each power from nothing.
+// What the column rule wants to be 0 for column t and i, with each power computed from nothing.
 fn column_sum<F: Field>(code: &Code, cells: &[u16], t: usize, i: usize) -> u16 {
     let mut sum = 0;
     for j in 0..code.nodes() {

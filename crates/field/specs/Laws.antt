@@ -30,7 +30,7 @@ pub record Laws (F : Operations) : Type 0 where
   pub sub_below : (u v : ℕ) → F.sub u v < F.q
   pub mul_below : (u v : ℕ) → F.mul u v < F.q
   pub inv_below : (u : ℕ) → F.inv u < F.q
-  -- an operand of q or more counts as 0, and the inverse of 0 is 0
+  -- operands of q or more are taken for 0, and 0 has the inverse 0
   pub add_operands : (u v : ℕ) → F.add u v ≡ F.add (symbol F.q u) (symbol F.q v)
   pub sub_operands : (u v : ℕ) → F.sub u v ≡ F.sub (symbol F.q u) (symbol F.q v)
   pub mul_operands : (u v : ℕ) → F.mul u v ≡ F.mul (symbol F.q u) (symbol F.q v)

@@ -22,7 +22,8 @@ SharedHolds F code held row column work (Foreign v c) = First (Inside code) (For
 SharedHolds F code held row column work (Lost v c) = ⊥
 SharedHolds F code held row column work Contradiction = (u : List ℕ) → Fits F code held u → ⊥
 SharedHolds F code held row column work Ambiguous =
-    (u v : List ℕ) × Fits F code held u × Fits F code held v × (slice_index u (row * code.m + column) ≢ slice_index v (row * code.m + column))
+    (u v : List ℕ) × Fits F code held u × Fits F code held v
+    × (slice_index u (row * code.m + column) ≢ slice_index v (row * code.m + column))
 SharedHolds F code held row column work Allowance = ⊥
 
 -- Some file fits, and all fitting files have this symbol at the place.

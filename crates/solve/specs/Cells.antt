@@ -20,7 +20,8 @@ marked None = 65536
 abbrev pub Lists : Operations → Code → Held → ℕ → List ℕ → Type 0
 Lists F code held count cells =
     (x : ℕ) → x < count
-    → (slice_index cells x ≡ marked (held (x / width code) (x % width code))) × (ForeignAt F held (x / width code) (x % width code) → ⊥)
+    → (slice_index cells x ≡ marked (held (x / width code) (x % width code)))
+    × (ForeignAt F held (x / width code) (x % width code) → ⊥)
 
 -- what gathering answers: all cells, or the first that is foreign
 abbrev pub Gathered : Operations → Code → Held → List ℕ → Result ℕ Refusal → Type 0
@@ -58,21 +59,27 @@ LoadedRow code cells count w known p =
     ((p < count) × (slice_index cells (cell_at code p) < 65536) × (entry (code.k * code.m) w p p ≡ 1)
     × (entry (code.k * code.m) w p (code.k * code.m) ≡ slice_index cells (cell_at code p))
     × ((c : ℕ) → c < code.k * code.m → (c ≢ p) → entry (code.k * code.m) w p c ≡ 0))
-    ⊎ ((p < count → 65536 ≤ slice_index cells (cell_at code p)) × Empty (code.k * code.m) (entry (code.k * code.m) w) p × (slice_index_or known p false ≡ false))
+    ⊎ ((p < count → 65536 ≤ slice_index cells (cell_at code p))
+    × Empty (code.k * code.m) (entry (code.k * code.m) w) p
+    × (slice_index_or known p false ≡ false))
 
 abbrev pub Loaded : Code → List ℕ → ℕ → List ℕ → List Bool → Type 0
 Loaded code cells count w known = (p : ℕ) → p < code.k * code.m → LoadedRow code cells count w known p
 
 -- One more cell is met by the solutions, or no solution meets it.
-pub record Took (F : Operations) (code : Code) (cells : List ℕ) (known : List Bool) (x : ℕ) (A : ℕ → ℕ → ℕ) (taken : Bool) (B : ℕ → ℕ → ℕ) : Type 0 where
+pub record Took (F : Operations) (code : Code) (cells : List ℕ) (known : List Bool) (x : ℕ)
+    (A : ℕ → ℕ → ℕ) (taken : Bool) (B : ℕ → ℕ → ℕ) : Type 0 where
   pub reduced : Reduced F (code.k * code.m) B
   pub known_rows : KnownRows (code.k * code.m) known B
-  pub solutions : taken ≡ true → (y : ℕ → Symbols) → Factors F code y → (u : ℕ → ℕ) → (DataCell code x → Solution F (code.k * code.m) A u → Meets F code y cells u x)
+  pub solutions : taken ≡ true → (y : ℕ → Symbols) → Factors F code y → (u : ℕ → ℕ)
+      → (DataCell code x → Solution F (code.k * code.m) A u → Meets F code y cells u x)
       → ((Solution F (code.k * code.m) A u × Meets F code y cells u x) ↔ Solution F (code.k * code.m) B u)
-  pub contradiction : taken ≡ false → (y : ℕ → Symbols) → Factors F code y → (u : ℕ → ℕ) → Solution F (code.k * code.m) A u → Meets F code y cells u x → ⊥
+  pub contradiction : taken ≡ false → (y : ℕ → Symbols) → Factors F code y → (u : ℕ → ℕ)
+      → Solution F (code.k * code.m) A u → Meets F code y cells u x → ⊥
 
 -- The first `count` cells are met by the solutions.
-pub record TookAll (F : Operations) (code : Code) (cells : List ℕ) (known : List Bool) (count : ℕ) (A B : ℕ → ℕ → ℕ) : Type 0 where
+pub record TookAll (F : Operations) (code : Code) (cells : List ℕ) (known : List Bool) (count : ℕ)
+    (A B : ℕ → ℕ → ℕ) : Type 0 where
   pub reduced : Reduced F (code.k * code.m) B
   pub known_rows : KnownRows (code.k * code.m) known B
   pub solutions : (y : ℕ → Symbols) → Factors F code y → (u : ℕ → ℕ) → Vector F code u

@@ -24,7 +24,8 @@ pub record Complete (F : Operations) (code : Code) (cells w : List ℕ) : Type 0
 -- no vector meets all listed cells
 abbrev pub NoneMeets : Operations → Code → List ℕ → Type 0
 NoneMeets F code cells =
-    (y : ℕ → Symbols) → Factors F code y → (u : ℕ → ℕ) → Vector F code u → ((x : ℕ) → x < cell_count code → Meets F code y cells u x) → ⊥
+    (y : ℕ → Symbols) → Factors F code y → (u : ℕ → ℕ) → Vector F code u
+    → ((x : ℕ) → x < cell_count code → Meets F code y cells u x) → ⊥
 
 -- the solutions are the fitting files
 pub record FitsSolve (F : Operations) (code : Code) (held : Held) (w : List ℕ) : Type 0 where

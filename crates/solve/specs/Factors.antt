@@ -9,7 +9,8 @@ use Rattle.theorems.specs.Linear.{IsFactor}
 -- of each place (j, t) in the cell (v, t)
 abbrev pub ColumnOf : Operations → Code → ℕ → List ℕ → Type 0
 ColumnOf F code j table =
-    (v t : ℕ) (y : Symbols) → v < code.n → t < code.m → IsFactor F code (j * code.m + t) y → slice_index table (v * 64 + j) ≡ y v t
+    (v t : ℕ) (y : Symbols) → v < code.n → t < code.m → IsFactor F code (j * code.m + t) y
+    → slice_index table (v * 64 + j) ≡ y v t
 
 -- all k columns
 abbrev pub ColumnTable : Operations → Code → List ℕ → Type 0

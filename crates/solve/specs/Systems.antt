@@ -45,7 +45,8 @@ pub record Installed (F : Operations) (N c : ℕ) (row : ℕ → ℕ) (A B : ℕ
   pub others : (p j : ℕ) → p < N → j < N + 1 → (p ≢ c) → B p j ≡ F.sub (A p j) (F.mul (A p c) (B c j))
 
 -- A new equation goes into the system: taken, the solutions are those that keep it too; otherwise there are none.
-pub record Absorbed (F : Operations) (N : ℕ) (known : List Bool) (row : ℕ → ℕ) (A : ℕ → ℕ → ℕ) (taken : Bool) (B : ℕ → ℕ → ℕ) : Type 0 where
+pub record Absorbed (F : Operations) (N : ℕ) (known : List Bool) (row : ℕ → ℕ)
+    (A : ℕ → ℕ → ℕ) (taken : Bool) (B : ℕ → ℕ → ℕ) : Type 0 where
   pub reduced : Reduced F N B
   pub known_rows : KnownRows N known B
   pub solutions : taken ≡ true → (u : ℕ → ℕ) → ((Solution F N A u × Keeps F N row u) ↔ Solution F N B u)

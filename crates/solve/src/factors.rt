@@ -35,7 +35,8 @@ fn unit_column<F: Field>(
     requires cells { length cells.old ≡ 704 }
     requires table { length table.old ≡ 4096 }
     ensures made { ColumnOf F.ops code.now j table.new }
-    ensures kept { (v i : ℕ) → i < 64 → (i ≢ j) → slice_index table.new (v * 64 + i) ≡ slice_index table.old (v * 64 + i) }
+    ensures kept { (v i : ℕ) → i < 64 → (i ≢ j)
+        → slice_index table.new (v * 64 + i) ≡ slice_index table.old (v * 64 + i) }
 {
     encode_unit::<F>(code, j, file, cells);
     let columns = code.columns();
@@ -90,8 +91,10 @@ fn put_factors<F: Field>(
     requires data_column { t < code.now.m }
     requires table { length table.now ≡ 4096 }
     requires row { code.now.k * code.now.m ≤ length row.old }
-    ensures made { (j : ℕ) → j < code.now.k → slice_index row.new (j * code.now.m + t) ≡ F.ops.mul scale (slice_index table.now (w * 64 + j)) }
-    ensures kept { (i : ℕ) → ((j : ℕ) → j < code.now.k → i ≢ j * code.now.m + t) → slice_index row.new i ≡ slice_index row.old i }
+    ensures made { (j : ℕ) → j < code.now.k
+        → slice_index row.new (j * code.now.m + t) ≡ F.ops.mul scale (slice_index table.now (w * 64 + j)) }
+    ensures kept { (i : ℕ) → ((j : ℕ) → j < code.now.k → i ≢ j * code.now.m + t)
+        → slice_index row.new i ≡ slice_index row.old i }
 {
     let m = code.data_columns();
     for j in 0..code.data_nodes() {

@@ -15,7 +15,8 @@ use store::Store;
 // Brings the system of the listed cells into work memory; `false` where they contradict one another.
 fn build<F: Field>(code: &Code, cells: &[u32], work: &mut [u32]) -> bool
     requires cells { length cells.now ≡ 704 }
-    requires symbols { (x : ℕ) → x < cell_count code.now → slice_index cells.now x < 65536 → slice_index cells.now x < F.ops.q }
+    requires symbols { (x : ℕ) → x < cell_count code.now → slice_index cells.now x < 65536
+        → slice_index cells.now x < F.ops.q }
     requires front { length work.old ≡ front code.now }
     ensures all { result ≡ true → Complete F.ops code.now cells.now work.new }
     ensures none { result ≡ false → NoneMeets F.ops code.now cells.now }

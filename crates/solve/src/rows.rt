@@ -33,7 +33,9 @@ pub(crate) fn subtract_row<F: Field>(work: &mut [u32], width: usize, s: usize, p
     requires narrow { width < 506 }
     requires inside { s * width + width ≤ length work.old }
     requires other_inside { p * width + width ≤ length work.old }
-    ensures { RowIs width s (λ c. F.ops.sub (slice_index work.old (s * width + c)) (F.ops.mul by (slice_index work.old (p * width + c)))) work.old work.new }
+    ensures { RowIs width s
+        (λ c. F.ops.sub (slice_index work.old (s * width + c)) (F.ops.mul by (slice_index work.old (p * width + c))))
+        work.old work.new }
 {
     for c in 0..width {
         work[s * width + c] = minus::<F>(work[s * width + c], times::<F>(by, work[p * width + c]));

@@ -13,7 +13,9 @@ fn eliminate<F: Field>(work: &mut [u32], n: usize, c: usize)
     requires front { length work.old ≡ n * (n + 1) }
     requires below { (p j : ℕ) → p < n → j < n + 1 → entry n work.old p j < F.ops.q }
     ensures kept { (j : ℕ) → j < n + 1 → entry n work.new c j ≡ entry n work.old c j }
-    ensures others { (p j : ℕ) → p < n → j < n + 1 → (p ≢ c) → entry n work.new p j ≡ F.ops.sub (entry n work.old p j) (F.ops.mul (entry n work.old p c) (entry n work.old c j)) }
+    ensures others { (p j : ℕ) → p < n → j < n + 1 → (p ≢ c)
+        → entry n work.new p j
+        ≡ F.ops.sub (entry n work.old p j) (F.ops.mul (entry n work.old p c) (entry n work.old c j)) }
 {
     let width = n + 1;
     let mut from = 0;
@@ -43,7 +45,8 @@ fn install<F: Field>(work: &mut [u32], n: usize, c: usize, row: &[u32])
 // Takes a multiple of one row from another.
 fn subtract_from<F: Field>(row: &mut [u32], other: &[u32], by: u32)
     requires { length row.old ≡ length other.now }
-    ensures { (c : ℕ) → c < length row.old → slice_index row.new c ≡ F.ops.sub (slice_index row.old c) (F.ops.mul by (slice_index other.now c)) }
+    ensures { (c : ℕ) → c < length row.old
+        → slice_index row.new c ≡ F.ops.sub (slice_index row.old c) (F.ops.mul by (slice_index other.now c)) }
 {
     for (c, x) in row.iter_mut().enumerate() {
         *x = minus::<F>(*x, times::<F>(by, other[c]));
@@ -59,7 +62,9 @@ fn take_out<F: Field>(work: &[u32], n: usize, known: &[bool], p: usize, row: &mu
     requires known { n ≤ length known.now }
     requires marked { KnownRows n known.now (entry n work.now) }
     requires below { (c : ℕ) → c < n + 1 → slice_index row.old c < F.ops.q }
-    ensures { (c : ℕ) → c < n + 1 → slice_index row.new c ≡ F.ops.sub (slice_index row.old c) (F.ops.mul (slice_index row.old p) (entry n work.now p c)) }
+    ensures { (c : ℕ) → c < n + 1
+        → slice_index row.new c
+        ≡ F.ops.sub (slice_index row.old c) (F.ops.mul (slice_index row.old p) (entry n work.now p c)) }
 {
     let a = p * (n + 1);
     let by = row[p];

@@ -52,7 +52,8 @@ fn take_cell<F: Field>(
     requires front { length work.old ≡ code.now.k * code.now.m * (code.now.k * code.now.m + 1) }
     requires marked { KnownRows (code.now.k * code.now.m) known.now (entry (code.now.k * code.now.m) work.old) }
     requires reduced { Reduced F.ops (code.now.k * code.now.m) (entry (code.now.k * code.now.m) work.old) }
-    ensures { Took F.ops code.now cells.now known.now x (entry (code.now.k * code.now.m) work.old) result (entry (code.now.k * code.now.m) work.new) }
+    ensures { Took F.ops code.now cells.now known.now x (entry (code.now.k * code.now.m) work.old) result
+        (entry (code.now.k * code.now.m) work.new) }
 {
     let columns = code.columns();
     let v = x / columns;
@@ -77,7 +78,8 @@ pub(crate) fn take_cells<F: Field>(
     work: &mut [u32],
 ) -> bool
     requires cells { length cells.now ≡ 704 }
-    requires symbols { (x : ℕ) → x < cell_count code.now → slice_index cells.now x < 65536 → slice_index cells.now x < F.ops.q }
+    requires symbols { (x : ℕ) → x < cell_count code.now → slice_index cells.now x < 65536
+        → slice_index cells.now x < F.ops.q }
     requires long { length table.now ≡ 4096 }
     requires table { ColumnTable F.ops code.now table.now }
     requires marks { length known.now ≡ 504 }
@@ -86,7 +88,9 @@ pub(crate) fn take_cells<F: Field>(
     requires marked { KnownRows (code.now.k * code.now.m) known.now (entry (code.now.k * code.now.m) work.old) }
     requires reduced { Reduced F.ops (code.now.k * code.now.m) (entry (code.now.k * code.now.m) work.old) }
     requires met { DataMet F.ops code.now cells.now (entry (code.now.k * code.now.m) work.old) }
-    ensures all { result ≡ true → TookAll F.ops code.now cells.now known.now (cell_count code.now) (entry (code.now.k * code.now.m) work.old) (entry (code.now.k * code.now.m) work.new) }
+    ensures all { result ≡ true
+        → TookAll F.ops code.now cells.now known.now (cell_count code.now)
+        (entry (code.now.k * code.now.m) work.old) (entry (code.now.k * code.now.m) work.new) }
     ensures none { result ≡ false → Contradicts F.ops code.now cells.now (entry (code.now.k * code.now.m) work.old) }
 {
     for x in 0..code.nodes() * code.columns() {

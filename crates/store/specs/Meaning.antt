@@ -21,7 +21,7 @@ pub record Lawful (m : Meaning) : Type 0 where
   pub outside : (j c : ℕ) → inside m j c ≡ false → m.cell j c ≡ None
   pub symbols : (j c v : ℕ) → m.cell j c ≡ Some v → v < 65536
 
--- A store is blank when each of its cells is lost.
+-- A store in which every cell is lost is blank.
 abbrev pub Blank : Meaning → Type 0
 Blank m = (j c : ℕ) → j < m.nodes → c < m.columns → m.cell j c ≡ None
 

@@ -12,7 +12,7 @@ mod lent;
 pub use lent::Grid;
 
 // A store of cells. The questions change nothing and tell the meaning. `write` and `lose` say whether
-// they were taken, which they are exactly if the cell is inside and the allowance is at least 1.
+// the change was taken: that is so exactly where there is such a cell and the allowance is not used up.
 pub trait Store {
     // the nodes, the columns, what each cell holds, and the allowance
     ghost meaning: { Self → Meaning };
@@ -92,7 +92,8 @@ fn whole_nodes(nodes: usize, columns: usize, room: usize) -> usize
 impl<'a> Grid<'a> {
     // A grid over memory that keeps its numbers. Nodes that do not fit whole are dropped.
     pub fn take_up(nodes: usize, columns: usize, memory: &'a mut [u32]) -> Grid<'a>
-        ensures means { meaning_of result ≡ grid memory.old (whole_nodes nodes columns (length memory.old)) (counted_columns columns) }
+        ensures means { meaning_of result
+            ≡ grid memory.old (whole_nodes nodes columns (length memory.old)) (counted_columns columns) }
         ensures held { numbers result ≡ memory.old }
         ensures named { result.cells.ghost_name ≡ memory.entry.ghost_name }
     {
@@ -106,7 +107,9 @@ impl<'a> Grid<'a> {
 
     // A grid whose cells are all lost: every number of the memory becomes the mark of a lost cell.
     pub fn blank(nodes: usize, columns: usize, memory: &'a mut [u32]) -> Grid<'a>
-        ensures means { meaning_of result ≡ grid (replicate (length memory.old) lost_mark) (whole_nodes nodes columns (length memory.old)) (counted_columns columns) }
+        ensures means { meaning_of result
+            ≡ grid (replicate (length memory.old) lost_mark) (whole_nodes nodes columns (length memory.old))
+            (counted_columns columns) }
         ensures blank { Blank (meaning_of result) }
         ensures held { numbers result ≡ replicate (length memory.old) lost_mark }
         ensures named { result.cells.ghost_name ≡ memory.entry.ghost_name }

@@ -55,7 +55,10 @@ fn lose_cell<S: Store>(store: &mut S, j: usize, c: usize) -> bool
 // Loses one cell of the grid that lies in lent memory. What the memory holds afterwards is known, although
 // generic code made the change.
 fn lose_in_row(nodes: usize, columns: usize, memory: &mut [u32], j: usize, c: usize) -> bool
-    ensures { Changed (grid memory.old (whole_nodes nodes columns (length memory.old)) (counted_columns columns)) j c None result (grid memory.new (whole_nodes nodes columns (length memory.old)) (counted_columns columns)) }
+    ensures { Changed
+        (grid memory.old (whole_nodes nodes columns (length memory.old)) (counted_columns columns))
+        j c None result
+        (grid memory.new (whole_nodes nodes columns (length memory.old)) (counted_columns columns)) }
 {
     let mut grid = Grid::take_up(nodes, columns, memory);
     lose_cell(&mut grid, j, c)

@@ -127,7 +127,7 @@ module _ (F : Operations) (L : Laws F) (code : Code) where
       one_file m c (one_fits F L code m nodes wide few within)
       (answered_holds (Holds F code m c) (Done m c) m m' answer A Ambiguous is)
 
-  -- With no file, no read, change or mending is accepted ..
+  -- Where the ledger has no file, reads, changes and mendings are declined ..
   not_without : (lost : ℕ → ℕ → Bool) (m : Meaning) (c : Call) (value : ℕ) (m' : Meaning) → HoldsNone m lost
       → ((e : Refusal) → Holds F code m c e → ⊥) → Done m c value m' → NotAccepted c (Ok value)
   not_without lost m (call.Lay file) value m' H none D = tt
@@ -150,7 +150,7 @@ module _ (F : Operations) (L : Laws F) (code : Code) where
   not_declined (call.MendNode node) e = declined e
   not_declined (call.MendAll work) e = declined e
 
-  -- .. so with no file none was.
+  -- .. so none of them was accepted.
   nothing_laid : (file : Option (List ℕ)) (lost : ℕ → ℕ → Bool) (m : Meaning) (c : Call) (answer : Result ℕ Refusal) (m' : Meaning)
       → HoldsOr F code m lost file → Answers (Holds F code m c) (Done m c) m answer m' → file ≡ None → NotAccepted c answer
   nothing_laid file lost m c (Err e) m' H A is = not_declined c e

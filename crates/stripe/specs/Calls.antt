@@ -48,8 +48,8 @@ pub record Told (F : Operations) (code : Code) (j t : ℕ) (before : Meaning) (v
 abbrev pub Read : Operations → Code → ℕ → ℕ → ℕ → Meaning → Result ℕ Refusal → Meaning → Type 0
 Read F code j t work before answer after = Answers (ReadHolds F code before j t work) (Told F code j t before) before answer after
 
--- Change: x(j, t) is what the store holds there. To each present cell of the change is added what the stripe
--- of the file with s − x(j, t) at (j, t), and 0 elsewhere, holds in that cell; lost ones stay lost.
+-- Change: x(j, t) is what the store holds there. Each present cell of the change is increased by the same cell of another
+-- stripe: of the file that is s − x(j, t) at (j, t) and 0 in every other place. Lost cells stay lost.
 pub record Shifted (F : Operations) (code : Code) (j t s : ℕ) (before : Meaning) (value : ℕ) (after : Meaning) : Type 0 where
   pub returned : value ≡ present_cells code before j t
   pub kept : Kept before (present_cells code before j t) after

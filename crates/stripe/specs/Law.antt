@@ -101,7 +101,8 @@ NotAccepted (call.MendAll work) answer = (value : ℕ) → answer ≢ Ok value
 
 -- What is promised of one call of a list: l is the ledger before it, m and m' are what the store means before
 -- and after it.
-pub record Promised (F : Operations) (code : Code) (l : Ledger) (m : Meaning) (c : Call) (answer : Result ℕ Refusal) (m' : Meaning) : Type 0 where
+pub record Promised (F : Operations) (code : Code) (l : Ledger) (m : Meaning) (c : Call)
+    (answer : Result ℕ Refusal) (m' : Meaning) : Type 0 where
   -- 1. it was accepted exactly if none of its refusals held before it
   pub accepted : ((value : ℕ) × (answer ≡ Ok value)) ↔ Least (Holds F code m c) None
   -- 2. afterwards the store holds what the ledger says
@@ -126,7 +127,8 @@ abbrev pub MendingIsLocal : Type 0
 MendingIsLocal =
     (F : Operations) (code : Code) (f : ℕ) (m₁ m₂ m₁' m₂' : Meaning) (v₁ v₂ : ℕ)
     → MendNode F code f m₁ (Ok v₁) m₁' → MendNode F code f m₂ (Ok v₂) m₂'
-    → ((p : ℕ) → p < whole code → m₁.cell (wanted code f p).0 (wanted code f p).1 ≡ m₂.cell (wanted code f p).0 (wanted code f p).1)
+    → ((p : ℕ) → p < whole code
+    → m₁.cell (wanted code f p).0 (wanted code f p).1 ≡ m₂.cell (wanted code f p).0 (wanted code f p).1)
     → (c : ℕ) → c < width code → m₁'.cell f c ≡ m₂'.cell f c
 
 -- The law, for every field that keeps the laws and every code. 1 to 6 hold after each call of any list of

@@ -1,5 +1,5 @@
--- The ledger: what somebody knows of a stripe who is told each call, its arguments and whether it was
--- accepted, and never sees the store.
+-- The ledger: what can be written down by somebody who hears of every call, with its arguments and whether it was
+-- accepted, and who never looks into the store.
 use Rattle.std.specs.Prelude.{◌≡◌, ℕ, ◌+◌, ◌*◌, ◌<◌, Bool, true, false, not, ◌&&◌, ◌||◌, List, [], ◌∷◌, Some, None, Ok, Err, Option, Result, ◌==◌, slice_set}
 use Rattle.std.specs.Option.{option_map}
 use Rattle.field.specs.Laws.{Operations}
@@ -19,12 +19,13 @@ pub record Ledger : Type 0 where
 abbrev pub empty : Ledger
 empty = record { file = None; lost = λ j c. true }
 
--- What an accepted call enters. A lay puts in its file and empties the set of lost cells, a change sets
--- symbol j·m + t, a loss adds its cells, a mending takes out its own; a read enters nothing.
+-- What an accepted call enters. Laying replaces the file and leaves no cell lost, a change puts its symbol in place of
+-- number j·m + t, a loss puts its cells into the set, a mending takes its own out of it; a read enters nothing.
 abbrev pub entered : Code → Ledger → Call → Ledger
 entered code l (Lay file) = record { file = Some file.now; lost = λ j c. false }
 entered code l (Read row column work) = l
-entered code l (Change row column symbol) = record { file = option_map (λ u. slice_set u (row * code.m + column) symbol) l.file; lost = l.lost }
+entered code l (Change row column symbol) =
+    record { file = option_map (λ u. slice_set u (row * code.m + column) symbol) l.file; lost = l.lost }
 entered code l (LoseCell node column) = record { file = l.file; lost = λ j c. (j == node && c == column) || l.lost j c }
 entered code l (LoseNode node) = record { file = l.file; lost = λ j c. (j == node) || l.lost j c }
 entered code l (MendNode node) = record { file = l.file; lost = λ j c. not (j == node) && l.lost j c }

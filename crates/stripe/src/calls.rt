@@ -4,7 +4,7 @@
 // length.
 #[derive(Clone, Copy)]
 pub enum Call<'a> {
-    // writes the stripe of a file into every cell
+    // puts a file into the store: each cell gets its symbol of the file's stripe
     Lay {
         file: &'a [u16],
     },
