@@ -1,8 +1,8 @@
 // The code: its record, the rules of a stripe, and what is computed from them.
 #![tactic(auto)]
 
-ghost use Rattle.std.specs.Prelude.{◌≡◌, ℕ, ◌+◌, ◌-◌, ◌*◌, ◌<◌, ◌≤◌};
-ghost use Rattle.code.specs.Bounds.{Lawful, Made};
+ghost use Rattle.std.specs.Prelude.{◌≡◌, ◌+◌, ◌-◌, ◌*◌};
+ghost use Rattle.code.specs.Bounds.{Made};
 ghost use Rattle.code.specs.Positions.{BehindUndoesAhead, ahead, behind};
 ghost use Rattle.code.specs.Refusals.{number, place};
 

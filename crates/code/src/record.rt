@@ -1,5 +1,5 @@
 // The record of a code's four numbers.
-ghost use Rattle.std.specs.Prelude.{◌≡◌, ℕ, ◌+◌, ◌<◌, ◌≤◌};
+ghost use Rattle.std.specs.Prelude.{◌≡◌, ◌+◌, ◌<◌, ◌≤◌};
 
 // A code over n nodes, k of them for data, with m data columns and a coded columns. Every record
 // that exists keeps the bounds below, so nothing that takes one tests them.

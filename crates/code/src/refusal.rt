@@ -15,7 +15,7 @@ pub enum Refusal {
     Work,
     // 5: a node, a row or a column is outside
     Outside,
-    // 6: a symbol that was handed over is q or more
+    // 6: a symbol given to the call is q or more
     Symbol,
     // 7: a cell that is present has a number of q or more
     Foreign { node: usize, column: usize },

@@ -1,5 +1,5 @@
 // The cells of a stripe, written from its data columns.
-ghost use Rattle.std.specs.Prelude.{◌≡◌, ℕ, ◌+◌, ◌-◌, ◌*◌, ◌<◌, ◌≤◌, length, slice_index};
+ghost use Rattle.std.specs.Prelude.{◌≡◌, ℕ, ◌<◌, ◌≤◌, length, slice_index};
 ghost use Rattle.code.specs.Positions.{behind};
 ghost use Rattle.code.specs.Stripe.{width};
 ghost use Rattle.encode.specs.Encoding.{cell_count, in_memory};

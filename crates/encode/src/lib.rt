@@ -1,7 +1,6 @@
 // The encoder: the stripe of a file, in memory that the caller lends. Nothing here allocates.
 #![tactic(auto)]
 
-ghost use Rattle.std.specs.Prelude.{◌≡◌, ℕ, ◌+◌, ◌*◌, ◌<◌, ◌≤◌, length};
 ghost use Rattle.code.specs.Refusals.{Least};
 ghost use Rattle.encode.specs.Encoding.{Declined, Encoded};
 ghost use Rattle.encode.specs.Rules.{Judged};

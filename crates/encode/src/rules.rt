@@ -1,9 +1,6 @@
 // The rules of a stripe, tested on memory.
-ghost use Rattle.std.specs.Prelude.{◌≡◌, ℕ, ◌+◌, ◌-◌, ◌*◌, ◌<◌, ◌≤◌, length, slice_index};
-ghost use Rattle.field.specs.Laws.{power};
-ghost use Rattle.algebra.specs.Sums.{sum};
-ghost use Rattle.code.specs.Positions.{ahead, behind};
-ghost use Rattle.code.specs.Stripe.{ColumnRule, GroupRule, parity, width};
+ghost use Rattle.std.specs.Prelude.{◌≡◌, ℕ, ◌<◌, ◌≤◌, length, slice_index};
+ghost use Rattle.code.specs.Stripe.{ColumnRule, GroupRule, width};
 ghost use Rattle.encode.specs.Encoding.{cell_count, in_memory};
 ghost use Rattle.encode.specs.Rules.{ColumnSums, GroupSums, Tells, group_sum};
 ghost use Rattle.encode.specs.Scratch.{GroupWeights};

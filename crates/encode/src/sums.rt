@@ -1,5 +1,5 @@
 // Symbols, powers and sums over slices.
-ghost use Rattle.std.specs.Prelude.{◌≡◌, ℕ, ◌+◌, ◌*◌, ◌<◌, ◌≤◌, Bool, true, false, length, slice_index};
+ghost use Rattle.std.specs.Prelude.{◌≡◌, ℕ, ◌<◌, ◌≤◌, true, false, length, slice_index};
 ghost use Rattle.field.specs.Laws.{power};
 ghost use Rattle.algebra.specs.Sums.{sum};
 ghost use Rattle.encode.specs.Systems.{AllBelow, column_sum};

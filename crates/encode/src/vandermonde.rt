@@ -1,5 +1,5 @@
 // Vandermonde systems, solved in place.
-ghost use Rattle.std.specs.Prelude.{◌≡◌, ℕ, ◌+◌, ◌*◌, ◌<◌, ◌≤◌, length, slice_index};
+ghost use Rattle.std.specs.Prelude.{◌≡◌, ℕ, ◌+◌, ◌<◌, length, slice_index};
 ghost use Rattle.algebra.specs.Sums.{sum};
 ghost use Rattle.encode.specs.Systems.{AllBelow, AllDiffer, Reaches};
 

@@ -1,5 +1,4 @@
 // GF(257): the numbers modulo the prime 257.
-ghost use Rattle.std.specs.Prelude.{◌≡◌, ◌<◌};
 ghost use Rattle.field.specs.Prime.{prime};
 ghost use Rattle.field.specs.PrimeLaws.{prime_laws};
 

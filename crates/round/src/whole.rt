@@ -1,5 +1,5 @@
 // A whole round over an array of symbols: it shows how the states are used one after the other.
-ghost use Rattle.std.specs.Prelude.{◌≡◌, ◌+◌, ◌-◌, ◌*◌, ◌<◌, ◌≤◌, [], ◌++◌, length, take, drop};
+ghost use Rattle.std.specs.Prelude.{◌≡◌, ◌*◌, ◌≤◌, [], ◌++◌, length, take, drop};
 ghost use Rattle.code.specs.Stripe.{width};
 ghost use Rattle.round.specs.States.{Wants};
 ghost use Rattle.round.specs.Rebuild.{Rebuilds, OfStripe};

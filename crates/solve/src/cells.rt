@@ -1,6 +1,5 @@
 // The cells of a store, gathered in a list.
-ghost use Rattle.std.specs.Prelude.{◌≡◌, ℕ, ◌+◌, ◌*◌, ◌<◌, ◌≤◌, length};
-ghost use Rattle.encode.specs.Encoding.{cell_count};
+ghost use Rattle.std.specs.Prelude.{◌≡◌, length};
 ghost use Rattle.solve.specs.Cells.{Gathered};
 
 use code::{Code, Refusal};

@@ -3,8 +3,8 @@
 // present ones need not come from a stripe. Nothing here allocates: the caller lends the work memory.
 #![tactic(auto)]
 
-ghost use Rattle.std.specs.Prelude.{◌≡◌, ℕ, ◌+◌, ◌*◌, ◌<◌, ◌≤◌, length};
-ghost use Rattle.code.specs.Work.{WorkAfter, front};
+ghost use Rattle.std.specs.Prelude.{length};
+ghost use Rattle.code.specs.Work.{WorkAfter};
 ghost use Rattle.solve.specs.Answers.{SharedSymbol, OnlyFile};
 
 mod cells;

@@ -1,5 +1,5 @@
 // What the system of the present cells decides.
-ghost use Rattle.std.specs.Prelude.{◌≡◌, ℕ, ◌+◌, ◌-◌, ◌*◌, ◌<◌, ◌≤◌, true, false, length, Some, None, slice_index};
+ghost use Rattle.std.specs.Prelude.{◌≡◌, ℕ, ◌+◌, ◌*◌, ◌<◌, ◌≤◌, true, false, length, Some, None, slice_index};
 ghost use Rattle.solve.specs.Systems.{entry};
 ghost use Rattle.encode.specs.Encoding.{cell_count};
 ghost use Rattle.code.specs.Work.{front};

@@ -1,5 +1,5 @@
 // A system of linear equations in reduced form, in work memory, and how it takes up one more equation.
-ghost use Rattle.std.specs.Prelude.{◌≡◌, ℕ, ◌+◌, ◌-◌, ◌*◌, ◌<◌, ◌≤◌, true, false, length, ◌≢◌, slice_index};
+ghost use Rattle.std.specs.Prelude.{◌≡◌, ℕ, ◌+◌, ◌*◌, ◌<◌, ◌≤◌, length, ◌≢◌, slice_index};
 ghost use Rattle.solve.specs.Systems.{entry, Reduced, KnownRows, Remainder, Installed, Absorbed, FirstFactor};
 
 use crate::numbers::{inverse, minus, times};

@@ -1,5 +1,5 @@
 // The system of all present cells.
-ghost use Rattle.std.specs.Prelude.{◌≡◌, ℕ, ◌+◌, ◌-◌, ◌*◌, ◌<◌, ◌≤◌, true, false, length, slice_index};
+ghost use Rattle.std.specs.Prelude.{◌≡◌, ℕ, ◌+◌, ◌*◌, ◌<◌, true, false, length, slice_index};
 ghost use Rattle.solve.specs.Systems.{entry, Reduced, KnownRows};
 ghost use Rattle.solve.specs.Factors.{ColumnTable};
 ghost use Rattle.encode.specs.Encoding.{cell_count};

@@ -1,7 +1,7 @@
 // Works a grid and a card through the same changes, and shows where each of them ends.
 #![tactic(auto)]
 
-ghost use Rattle.std.specs.Prelude.{◌≡◌, length, None};
+ghost use Rattle.std.specs.Prelude.{length, None};
 ghost use Rattle.store.specs.Meaning.{Changed};
 ghost use Rattle.store.specs.Sizes.{counted_columns, counted_nodes, whole_nodes};
 ghost use Rattle.store.specs.Grids.{grid};
