@@ -46,7 +46,7 @@ pub fn encode<F: Field>(code: &Code, file: &[u16], cells: &mut [u16]) -> Result<
         return Err(e);
     }
     let mut points = [0u16; 64];
-    powers::<F>(F::alpha(), &mut points);
+    powers::<F>(F::GENERATOR, &mut points);
     let mut columns = [0u16; 512];
     complete::<F>(code, file, &points, &mut columns);
     write_nodes::<F>(code, &points, &columns, cells);

@@ -125,7 +125,7 @@ pub(crate) fn keeps_groups<F: Field>(code: &Code, cells: &[u16]) -> bool
     ensures { Tells result (GroupRule F.ops code.now (in_memory code.now cells.now)) }
 {
     let mut points = [0u16; 64];
-    powers::<F>(F::alpha(), &mut points);
+    powers::<F>(F::GENERATOR, &mut points);
     let mut weights = [0u16; 24];
     group_weights::<F>(code, &points, &mut weights);
     for j in 0..code.nodes() {

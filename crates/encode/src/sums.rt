@@ -11,7 +11,7 @@ pub(crate) fn all_symbols<F: Field>(xs: &[u16]) -> bool
     ensures yes { result ≡ true → AllBelow F.ops.q xs.now }
     ensures not { result ≡ false → (p : ℕ) × (p < length xs.now) × (F.ops.q ≤ slice_index xs.now p) }
 {
-    let q = F::order();
+    let q = F::SIZE;
     for x in xs.iter() {
         if u32::from(*x) >= q {
             return false;
@@ -49,7 +49,7 @@ pub(crate) fn weighted_sum<F: Field>(weights: &[u16], column: &[u16]) -> u16
 pub fn column_sum<F: Field>(i: usize, column: &[u16]) -> u16
     ensures { result ≡ column_sum F.ops i column.now }
 {
-    let step = field::power::<F>(F::alpha(), i);
+    let step = field::power::<F>(F::GENERATOR, i);
     let mut weight = 1;
     let mut sum = 0;
     for x in column.iter() {

@@ -45,12 +45,12 @@ fn fill_system<F: Field>(code: &Code, cells: &[u16], t: usize, system: &mut [u16
     let width = r.saturating_add(1);
     for i in 0..r {
         for v in 0..r {
-            let weight = power::<F>(F::alpha(), i.saturating_mul(k.saturating_add(v)));
+            let weight = power::<F>(F::GENERATOR, i.saturating_mul(k.saturating_add(v)));
             put(system, place(i, width, v), weight);
         }
         let mut sum = 0;
         for j in 0..k {
-            let weight = power::<F>(F::alpha(), i.saturating_mul(j));
+            let weight = power::<F>(F::GENERATOR, i.saturating_mul(j));
             sum = F::sum(
                 sum,
                 F::product(weight, get(cells, place(j, code.columns(), t))),
@@ -124,7 +124,7 @@ fn fill_groups<F: Field>(code: &Code, cells: &mut [u16]) {
         for i in 0..code.coded_columns() {
             let mut sum = 0;
             for t in 0..code.data_columns() {
-                let weight = power::<F>(F::alpha(), i.saturating_mul(t));
+                let weight = power::<F>(F::GENERATOR, i.saturating_mul(t));
                 let node = code.behind(j, t.saturating_add(1));
                 sum = F::sum(
                     sum,
@@ -172,7 +172,7 @@ fn fill_file<F: Field>(file: &mut [u16]) {
     let mut state: u32 = 1;
     for x in file.iter_mut() {
         state = (state % 65537 * 75 + 74) % 65537;
-        let size = F::order().max(1);
+        let size = F::SIZE.max(1);
         *x = (state % size % 65536) as u16;
     }
 }

@@ -73,7 +73,7 @@ fn cell(code: &Code, cells: &[u16], j: usize, c: usize) -> u16 {
 fn column_sum<F: Field>(code: &Code, cells: &[u16], t: usize, i: usize) -> u16 {
     let mut sum = 0;
     for j in 0..code.nodes() {
-        let weight = slow_power::<F>(slow_power::<F>(F::alpha(), i), j);
+        let weight = slow_power::<F>(slow_power::<F>(F::GENERATOR, i), j);
         sum = F::sum(sum, F::product(weight, cell(code, cells, j, t)));
     }
     sum
@@ -89,7 +89,7 @@ fn group_sum<F: Field>(code: &Code, cells: &[u16], j: usize, i: usize) -> u16 {
         } else {
             node - 1
         };
-        let weight = slow_power::<F>(slow_power::<F>(F::alpha(), i), t);
+        let weight = slow_power::<F>(slow_power::<F>(F::GENERATOR, i), t);
         sum = F::sum(sum, F::product(weight, cell(code, cells, node, t)));
     }
     sum
@@ -154,7 +154,7 @@ fn fill_file<F: Field>(file: &mut [u16]) {
     let mut state: u32 = 1;
     for x in file.iter_mut() {
         state = (state % 65537 * 75 + 74) % 65537;
-        let size = F::order().max(1);
+        let size = F::SIZE.max(1);
         *x = (state % size % 65536) as u16;
     }
 }

@@ -1,5 +1,5 @@
 // GF(256): bytes, as polynomials over two elements modulo x^8 + x^4 + x^3 + x^2 + 1.
-ghost use Rattle.std.specs.Prelude.{◌≡◌, ◌<◌};
+ghost use Rattle.std.specs.Prelude.{◌≡◌, ◌<◌, refl};
 ghost use Rattle.field.specs.Laws.{power};
 ghost use Rattle.field.specs.Bytes.{bytes};
 ghost use Rattle.field.specs.BytesLaws.{bytes_laws};
@@ -52,7 +52,7 @@ const LOGARITHMS: [u8; 256] = [
     214, 244, 234, 168, 80, 88, 175,
 ];
 
-// The field of 256 symbols.
+/// The field of 256 symbols.
 pub struct Bytes;
 
 // 2 to the power e.
@@ -65,7 +65,8 @@ fn power_of_two(e: usize) -> u16
 
 // The exponent e below 255 with 2 to the power e equal to u.
 fn logarithm(u: u16) -> usize
-    requires { (0 < u) × (u < 256) }
+    requires some { 0 < u }
+    requires byte { u < 256 }
     ensures below { result < 255 }
     ensures right { power bytes 2 result ≡ u }
 {
@@ -77,17 +78,17 @@ impl Field for Bytes {
 
     const SIZE: u32 = 256;
 
+    ghost SIZE = { 256 };
+
     const GENERATOR: u16 = 2;
 
+    ghost GENERATOR = { 2 };
+
+    ghost size = { refl };
+
+    ghost generator = { refl };
+
     ghost laws = { bytes_laws };
-
-    fn order() -> u32 {
-        Self::SIZE
-    }
-
-    fn alpha() -> u16 {
-        Self::GENERATOR
-    }
 
     fn sum(u: u16, v: u16) -> u16 {
         operand(256, u) ^ operand(256, v)

@@ -1,4 +1,5 @@
 // GF(257): the numbers modulo the prime 257.
+ghost use Rattle.std.specs.Prelude.{refl};
 ghost use Rattle.field.specs.Prime.{prime};
 ghost use Rattle.field.specs.PrimeLaws.{prime_laws};
 
@@ -21,7 +22,7 @@ const INVERSES: [u16; 257] = [
     77, 57, 32, 110, 214, 154, 64, 171, 128, 256,
 ];
 
-// The field of 257 symbols.
+/// The field of 257 symbols.
 pub struct Prime;
 
 impl Field for Prime {
@@ -29,17 +30,17 @@ impl Field for Prime {
 
     const SIZE: u32 = 257;
 
+    ghost SIZE = { 257 };
+
     const GENERATOR: u16 = 3;
 
+    ghost GENERATOR = { 3 };
+
+    ghost size = { refl };
+
+    ghost generator = { refl };
+
     ghost laws = { prime_laws };
-
-    fn order() -> u32 {
-        Self::SIZE
-    }
-
-    fn alpha() -> u16 {
-        Self::GENERATOR
-    }
 
     fn sum(u: u16, v: u16) -> u16 {
         (operand(257, u) + operand(257, v)) % 257

@@ -144,8 +144,8 @@ fn compare_products<F: Field + Slow>() -> Tally {
 // Every symbol u against u + v - v, at every symbol v.
 fn compare_differences<F: Field>() -> Tally {
     let mut tally = Tally::new();
-    for u in 0..F::order() {
-        for v in 0..F::order() {
+    for u in 0..F::SIZE {
+        for v in 0..F::SIZE {
             tally.compare(
                 F::difference(F::sum(u as u16, v as u16), v as u16),
                 u as u16,
@@ -158,7 +158,7 @@ fn compare_differences<F: Field>() -> Tally {
 // The product of every symbol but 0 and its inverse against 1.
 fn compare_inverses<F: Field>() -> Tally {
     let mut tally = Tally::new();
-    for u in 1..F::order() {
+    for u in 1..F::SIZE {
         tally.compare(F::product(u as u16, F::inverse(u as u16)), 1);
     }
     tally
@@ -179,7 +179,7 @@ fn compare_powers<F: Field + Slow>() -> Tally {
 
 // A product, an inverse, and what operands at and above the field's size give.
 fn print_worked_values<F: Field>(rt: &HostRuntime, u: u16, v: u16, w: u16) -> io::Result<()> {
-    let size = F::order();
+    let size = F::SIZE;
     let above = if size < 65536 { size as u16 } else { 65535 };
     println!(rt; "Worked values:")?;
     println!(rt; "  {u} times {v} is {}.", F::product(u, v))?;
@@ -241,16 +241,16 @@ fn main(rt: HostRuntime) -> io::Result<()> {
     print_introduction(&rt)?;
     println!(rt;
         "The field of bytes: {} symbols, and the generator {}.",
-        Bytes::order(),
-        Bytes::alpha()
+        Bytes::SIZE,
+        Bytes::GENERATOR
     )?;
     print_worked_values::<Bytes>(&rt, 2, 128, 2)?;
     print_comparisons::<Bytes>(&rt)?;
     println!(rt)?;
     println!(rt;
         "The numbers modulo 257: {} symbols, and the generator {}.",
-        Prime::order(),
-        Prime::alpha()
+        Prime::SIZE,
+        Prime::GENERATOR
     )?;
     print_worked_values::<Prime>(&rt, 256, 256, 3)?;
     print_comparisons::<Prime>(&rt)

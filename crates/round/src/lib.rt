@@ -69,7 +69,7 @@ impl<F: Field> Wanting<F> {
     pub fn give(self, symbol: u16) -> Result<Given<F>, Declined<F>>
         ensures { Gives F.ops self symbol result }
     {
-        if u32::from(symbol) >= F::order() {
+        if u32::from(symbol) >= F::SIZE {
             return Err(Declined {
                 refusal: Refusal::Symbol,
                 round: self,
@@ -204,7 +204,7 @@ fn raised<F: Field>(power: u16, by: usize) -> u16
 {
     let mut raised = power;
     for _i in 0..by {
-        raised = F::product(F::alpha(), raised);
+        raised = F::product(F::GENERATOR, raised);
     }
     raised
 }

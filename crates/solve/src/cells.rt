@@ -25,7 +25,7 @@ pub(crate) fn gather<F: Field, S: Store>(
         cells[x] = match store.cell(node, column) {
             None => LOST,
             Some(v) => {
-                if u32::from(v) >= F::order() {
+                if u32::from(v) >= F::SIZE {
                     return Err(Refusal::Foreign { node, column });
                 }
                 u32::from(v)

@@ -74,7 +74,7 @@ fn weight<F: Field>(code: &Code, v: usize, c: usize, t: usize) -> (usize, u32)
         return (v, if c == t { 1 } else { 0 });
     }
     let i = c - m;
-    let scale = power::<F>(F::alpha(), i * t);
+    let scale = power::<F>(F::GENERATOR, i * t);
     (code.behind(code.behind(v, i), t + 1), u32::from(scale))
 }
 

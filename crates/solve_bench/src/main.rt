@@ -102,7 +102,7 @@ fn fill_file<F: Field>(file: &mut [u16]) {
     let mut state: u32 = 1;
     for x in file.iter_mut() {
         state = (state % 65537 * 75 + 74) % 65537;
-        let size = F::order().max(1);
+        let size = F::SIZE.max(1);
         *x = (state % size % 65536) as u16;
     }
 }

@@ -165,7 +165,7 @@ fn first_foreign<F: Field>(code: &Code, held: &[u32]) -> Option<Refusal> {
     for node in 0..code.nodes() {
         for column in 0..code.columns() {
             if let Some(value) = present(held, place(node, code.columns(), column)) {
-                if u32::from(value) >= F::order() {
+                if u32::from(value) >= F::SIZE {
                     return Some(Refusal::Foreign { node, column });
                 }
             }

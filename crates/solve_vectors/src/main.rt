@@ -411,7 +411,7 @@ impl Random {
 
     // A symbol of the field.
     fn symbol<F: Field>(&mut self) -> u16 {
-        (self.below(F::order()) % 65536) as u16
+        (self.below(F::SIZE) % 65536) as u16
     }
 }
 
@@ -570,15 +570,15 @@ fn random_cell(code: &Code, random: &mut Random) -> usize {
 // Adds a symbol other than 0 to a random cell.
 fn change_symbol<F: Field>(code: &Code, random: &mut Random, held: &mut [u32]) {
     let at = random_cell(code, random);
-    let by = random.below(F::order().saturating_sub(1)).saturating_add(1);
-    let number = number_at(held, at).saturating_add(by) % F::order().max(1);
+    let by = random.below(F::SIZE.saturating_sub(1)).saturating_add(1);
+    let number = number_at(held, at).saturating_add(by) % F::SIZE.max(1);
     set_number(held, at, number);
 }
 
 // Puts a number that is no symbol into a random cell.
 fn spoil_cell<F: Field>(code: &Code, random: &mut Random, held: &mut [u32]) {
     let at = random_cell(code, random);
-    let number = F::order().saturating_add(random.below(1000));
+    let number = F::SIZE.saturating_add(random.below(1000));
     set_number(held, at, number);
 }
 

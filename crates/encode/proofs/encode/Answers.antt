@@ -11,7 +11,7 @@ complete-requires g c =
     record {
       file = accepted_file F c.args.code.now c.args.file.now (length c.args.cells.now) c.in_default.ensures;
       long = omega arith;
-      powers = λ j h. c.powers.ensures j h ∙ ap (λ a. power F a j) c.alpha.ensures;
+      powers = λ j h. c.powers.ensures j h ∙ ap (λ a. power F a j) (c.GENERATOR.ensures ∙ g.met.F.Field.generator);
       columns = omega arith;
     }
 
@@ -20,7 +20,7 @@ write_nodes-requires g c =
     let F = g.F.Field.ops in
     record {
       long = omega arith;
-      powers = λ j h. c.powers.ensures j h ∙ ap (λ a. power F a j) c.alpha.ensures;
+      powers = λ j h. c.powers.ensures j h ∙ ap (λ a. power F a j) (c.GENERATOR.ensures ∙ g.met.F.Field.generator);
       columns = omega arith;
       room = accepted_room F c.args.code.now c.args.file.now (length c.args.cells.now) c.in_default.ensures;
     }
