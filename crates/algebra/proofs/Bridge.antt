@@ -2,6 +2,7 @@
 -- A theorem over `field_of F L` is brought back to numbers in three steps: `to_injective` turns the equation of numbers
 -- below q into one of the carrier, `simp (to-add, to-sub, to-mul, ..)` moves `to` inward, and the theorem closes it.
 -- Nothing here asks that an operand be below q: one of q or more counts as 0 on both sides.
+use Rattle.std.proofs.lemmas.Grind.{common_steps}
 use Rattle.std.proofs.Common.{◌≡◌, ℕ, zero, suc, ◌<◌, sym, refl, ap, ◌∙◌, ap₂, arith}
 use mathlib.Core.Path.{fun_ext}
 use mathlib.Core.HLevel.{Σ_prop_path}
@@ -140,9 +141,7 @@ module _ (F : Operations) (L : Laws F) where
       (val-to (F.mul u v) (L.mul_below u v) ∙ L.mul_operands u v ∙ sym (val_mul (to u) (to v) ∙ ap₂ F.mul (val_symbol u) (val_symbol v)))
 
   pub to_inv : (u : ℕ) → to (F.inv u) ≡ inv (to u)
-  to_inv u =
-      val_injective (to (F.inv u)) (inv (to u))
-      (val-to (F.inv u) (L.inv_below u) ∙ L.inv_operand u ∙ sym (val-inv (to u) ∙ ap F.inv (val_symbol u)))
+  to_inv u = grind (arith, common_steps, to, val-inv, val-to, val_injective, val_symbol)
 
   to-symbol : (u : ℕ) → to (symbol F.q u) ≡ to u
   to-symbol u =
@@ -180,10 +179,7 @@ module _ (F : Operations) (L : Laws F) where
   pub to-syndrome : (n : ℕ) (z y : ℕ → ℕ) (i : ℕ)
       → to (syndrome F n z y i) ≡ syn field_of n (λ v. to (z v)) (λ v. to (y v)) i
   unfolding syn
-  to-syndrome n z y i =
-      to-sum n (λ v. F.mul (power F (z v) i) (y v))
-      ∙ total_ext field_of n (λ v. to (F.mul (power F (z v) i) (y v))) (λ v. pow field_of (to (z v)) i ⊗ to (y v))
-      (λ v l. to-mul (power F (z v) i) (y v) ∙ ap (λ t. t ⊗ to (y v)) (to-power (z v) i))
+  to-syndrome n z y i = grind (arith, common_steps, field_of, pow, to, to-mul, to-power, to-sum, total_ext)
 
   pub val-syn : (n : ℕ) (z y : ℕ → K) (i : ℕ)
       → val (syn field_of n z y i) ≡ syndrome F n (λ v. val (z v)) (λ v. val (y v)) i

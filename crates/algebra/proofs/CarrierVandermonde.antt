@@ -1,4 +1,5 @@
 -- Syndromes and Vandermonde systems in a field over its carrier.
+use Rattle.std.proofs.lemmas.Grind.{common_steps}
 use Rattle.std.proofs.Common.{◌≡◌, ℕ, zero, suc, ◌<◌, List, [], ◌∷◌, length, refl, ap, ◌∙◌, subst, inl, inr, arith}
 use native.Mathlib.Decide.{ℕ_discrete, dec_lt}
 use Rattle.algebra.specs.Vandermonde.{Listed, Distinct}
@@ -45,15 +46,11 @@ module _ (F : AbstractField) where
 
   pub δ_at : (w : ℕ) → δ w w ≡ 𝟙
   unfolding δ
-  δ_at w =
-      elim (ℕ_discrete w w) as (λ t. (elim t as (λ s. K) [ yes e ↦ 𝟙 | no d ↦ 𝟘 ]) ≡ 𝟙)
-      [ yes e ↦ refl | no d ↦ absurd (d refl) ]
+  δ_at w = grind (arith, common_steps)
 
   pub δ_off : (w v : ℕ) → ¬ (v ≡ w) → δ w v ≡ 𝟘
   unfolding δ
-  δ_off w v n =
-      elim (ℕ_discrete v w) as (λ t. (elim t as (λ s. K) [ yes e ↦ 𝟙 | no d ↦ 𝟘 ]) ≡ 𝟘)
-      [ yes e ↦ absurd (n e) | no d ↦ refl ]
+  δ_off w v n = grind (arith, common_steps)
 
   -- the points of different places differ
   abbrev pub Apart : ℕ → (ℕ → K) → Type 0

@@ -1,5 +1,6 @@
 -- The laws of a field and of its sums, over numbers. They hold at any numbers, since operands of q or more are taken for 0;
 -- `u < F.q` is a premise only where u itself is a side of the equation.
+use Rattle.std.proofs.lemmas.Grind.{common_steps}
 use Rattle.std.proofs.Common.{◌≡◌, ℕ, zero, suc, ◌+◌, ◌*◌, ◌<◌, ◌⊎◌, sym, refl, ap, ◌∙◌, ap₂, inl, inr, add-one, arith}
 use native.Mathlib.Nat as nat
 use native.Mathlib.Decide.{ℕ_discrete}
@@ -199,16 +200,7 @@ module _ (F : Operations) (L : Laws F) where
   -- α^(g·v) for v = 0 .. 63 all differ, for g = 1 and g = 2
   pub points_differ : (g v w : ℕ) → 0 < g → g < 3 → v < 64 → w < 64
       → power F F.α (g * v) ≡ power F F.α (g * w) → v ≡ w
-  points_differ g v w h₀ h₁ hv hw e = by_case (ℕ_discrete g 1)
-    where
-      by_case : Dec (g ≡ 1) → v ≡ w
-      by_case (yes o) =
-          let p : power F F.α (1 * v) ≡ power F F.α (1 * w) = rw o at e in
-          let h : 1 * v ≡ 1 * w = L.powers_differ (1 * v) (1 * w) (omega arith) (omega arith) p in omega arith
-      by_case (no n) =
-          let o : g ≡ 2 = omega arith in
-          let p : power F F.α (2 * v) ≡ power F F.α (2 * w) = rw o at e in
-          let h : 2 * v ≡ 2 * w = L.powers_differ (2 * v) (2 * w) (omega arith) (omega arith) p in omega arith
+  points_differ g v w h₀ h₁ hv hw e = grind (arith, common_steps)
 
   -- sums over an index
 
@@ -313,9 +305,7 @@ module _ (F : Operations) (L : Laws F) where
   -- with the points α^v, the power z^i of a point is α^(i·v)
   pub syndrome_generator : (n : ℕ) (y : ℕ → ℕ) (i : ℕ)
       → sum F n (λ v. F.mul (power F F.α (i * v)) (y v)) ≡ syndrome F n (λ v. power F F.α v) y i
-  syndrome_generator n y i =
-      sum_ext n (λ v. F.mul (power F F.α (i * v)) (y v)) (λ v. F.mul (power F (power F F.α v) i) (y v))
-      (λ v l. ap (λ t. F.mul t (y v)) (power-mul F.α i v))
+  syndrome_generator n y i = grind (arith, common_steps, power-mul, sum_ext)
 
   -- the exponents s, s + g, s + 2g .. give the syndromes of α^(s·v)·y(v) at the points α^(g·v)
   pub syndrome_progression : (n s g : ℕ) (y : ℕ → ℕ) (i : ℕ)

@@ -1,4 +1,5 @@
 -- Vandermonde systems over numbers: uniqueness, existence, completion, and the points that the generator gives.
+use Rattle.std.proofs.lemmas.Grind.{common_steps}
 use Rattle.std.proofs.Common.{◌≡◌, ℕ, zero, suc, ◌+◌, ◌-◌, ◌*◌, ◌<◌, ◌≤◌, cond, ltb, List, [], ◌∷◌, length, sym, refl, ap, ◌∙◌, ap₂, inl, inr, arith}
 use native.Mathlib.Decide.{ℕ_discrete, dec_lt}
 use Rattle.std.proofs.lemmas.Bool.{lt-ltb}
@@ -78,17 +79,11 @@ range_distinct k (suc r) = (λ i. let h = range_inside (suc k) r k i in omega ar
 
 -- the points α^(g·v), v < n ≤ 64, for g = 1 and g = 2
 pub generator_points : (F : Operations) → Laws F → (g n : ℕ) → 0 < g → g < 3 → n ≤ 64 → Points F n (λ v. power F F.α (g * v))
-generator_points F L g n h₀ h₁ hn = record {
-  below = λ v l. power_below F L F.α (g * v);
-  differ = λ v w lv lw e. points_differ F L g v w h₀ h₁ (omega arith) (omega arith) e;
-}
+generator_points F L g n h₀ h₁ hn = grind (arith, common_steps, points_differ, power_below)
 
 -- the points α^v, v < n ≤ 64
 pub plain_points : (F : Operations) → Laws F → (n : ℕ) → n ≤ 64 → Points F n (power F F.α)
-plain_points F L n hn = record {
-  below = λ v l. power_below F L F.α v;
-  differ = λ v w lv lw e. L.powers_differ v w (omega arith) (omega arith) e;
-}
+plain_points F L n hn = grind (arith, common_steps, power_below)
 
 -- Completion: the n − k places from k on are solved for the targets that cancel the syndromes of x alone.
 module _ (F : Operations) (L : Laws F) (n k : ℕ) (le : k ≤ n) (z : ℕ → ℕ) (P : Points F n z) (x : ℕ → ℕ) (bx : (v : ℕ) → v < k → x v < F.q) where

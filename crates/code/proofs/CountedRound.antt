@@ -1,7 +1,7 @@
 -- Nodes counted round: what ⟨v + s⟩ and ⟨v − s⟩ come to.
-use Rattle.std.proofs.Common.{◌≡◌, ℕ, ◌+◌, ◌-◌, ◌%◌, ◌<◌, ◌≤◌, ◌⊎◌, sym, ap, ◌∙◌, inl, inr, mod-lt, mod-eq_of_lt, arith}
+use Rattle.std.proofs.lemmas.Grind.{common_steps}
+use Rattle.std.proofs.Common.{◌≡◌, ℕ, ◌+◌, ◌-◌, ◌%◌, ◌<◌, ◌≤◌, ◌⊎◌, sym, ap, ◌∙◌, mod-lt, mod-eq_of_lt, arith}
 use native.Mathlib.Nat.{mod-mod, mod-eq-sub-mod, mod-add-mod, add-mod-mod, add-mod_right}
-use Rattle.std.proofs.lemmas.Bool.{cases_lt}
 use Rattle.code.specs.Positions.{ahead, behind, BehindUndoesAhead}
 
 -- a step back that is followed by one ahead, before the remainder is taken
@@ -94,9 +94,7 @@ mod_once n x low high = let small : x - n < n = omega arith in mod-eq-sub-mod lo
 
 -- a shift below n is its own remainder
 pub behind_small : (n v s : ℕ) → s < n → behind n v s ≡ (v + n - s) % n
-behind_small n v s small =
-    let same : v + (n - s) ≡ v + n - s = omega arith in
-    ap (λ (x : ℕ). (v + (n - x)) % n) (mod-eq_of_lt small) ∙ ap (λ (x : ℕ). x % n) same
+behind_small n v s small = grind (arith, common_steps, mod-eq_of_lt)
 
 pub ahead_within : (n v s : ℕ) → v + s < n → ahead n v s ≡ v + s
 ahead_within n v s low = mod-eq_of_lt low
@@ -105,9 +103,7 @@ pub ahead_round : (n v s : ℕ) → v < n → s < n → n ≤ v + s → ahead n 
 ahead_round n v s hv hs over = mod_once n (v + s) over (omega arith)
 
 pub behind_within : (n v s : ℕ) → v < n → s ≤ v → behind n v s ≡ v - s
-behind_within n v s hv low =
-    let back : v + n - s - n ≡ v - s = omega arith in
-    behind_small n v s (omega arith) ∙ mod_once n (v + n - s) (omega arith) (omega arith) ∙ back
+behind_within n v s hv low = grind (arith, common_steps, behind_small, mod_once)
 
 pub behind_round : (n v s : ℕ) → v < s → s < n → behind n v s ≡ v + n - s
 behind_round n v s low small =
@@ -116,33 +112,13 @@ behind_round n v s low small =
 -- the two ways of going ahead, as sums
 pub ahead_cases : (n v s : ℕ) → v < n → s < n
     → ((v + s < n) × (ahead n v s ≡ v + s)) ⊎ ((n ≤ v + s) × (ahead n v s + n ≡ v + s))
-ahead_cases n v s hv hs =
-    elim (cases_lt (v + s) n) [
-      | inl l ↦ inl (l, ahead_within n v s l)
-      | inr l ↦ inr (l, omega (arith, ahead_round n v s hv hs l))
-    ]
+ahead_cases n v s hv hs = grind (arith, common_steps, ahead_round, ahead_within)
 
 -- and of going back
 pub behind_cases : (n v s : ℕ) → v < n → s < n
     → ((s ≤ v) × (behind n v s + s ≡ v)) ⊎ ((v < s) × (behind n v s + s ≡ v + n))
-behind_cases n v s hv hs =
-    elim (cases_lt v s) [
-      | inl l ↦ inr (l, omega (arith, behind_round n v s l hs))
-      | inr l ↦ inl (l, omega (arith, behind_within n v s hv l))
-    ]
+behind_cases n v s hv hs = grind (arith, common_steps, behind_round, behind_within)
 
 -- numbers less than n apart with the same remainder are the same
 pub mod_same : (n v w : ℕ) → v < w + n → w < v + n → v % n ≡ w % n → v ≡ w
-mod_same n v w near near' e =
-    elim (cases_lt v w) [
-      | inl l ↦ absurd (stays v w l near' e)
-      | inr l ↦ elim (cases_lt w v) [ inl k ↦ absurd (stays w v k near (sym e)) | inr k ↦ omega arith ]
-    ]
-  where
-    stays : (x y : ℕ) → x < y → y < x + n → x % n ≡ y % n → ⊥
-    stays x y less close same =
-        let small : x % n < n = mod-lt x (omega arith) in
-        let there : x + (y - x) ≡ y = omega arith in
-        let lands : ahead n (x % n) (y - x) ≡ x % n =
-        mod-add-mod x n (y - x) ∙ ap (λ (z : ℕ). z % n) there ∙ sym same in
-        omega (arith, ahead_cases n (x % n) (y - x) small (omega arith))
+mod_same n v w near near' e = grind (arith, common_steps, ahead_cases, mod-lt)

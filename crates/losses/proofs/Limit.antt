@@ -1,4 +1,5 @@
 -- Where k > a, some r + a + 1 nodes may not be lost: they hold a stripe that is not 0.
+use Rattle.std.proofs.lemmas.Grind.{common_steps}
 use Rattle.std.proofs.Common.{◌≡◌, ℕ, suc, ◌+◌, ◌-◌, ◌*◌, ◌<◌, ◌≤◌, cond, eqb, ltb, List, get_or, sym, refl, ap, ◌∙◌, ap₂, arith}
 use native.Mathlib.Decide.{ℕ_discrete, dec_lt}
 use Rattle.std.proofs.lemmas.Bool.{lt-ltb, le-ltb, ltb-true, ne_eqb, cond_both}
@@ -39,9 +40,7 @@ module _ (F : Operations) (L : Laws F) (code : Code) where
 
   seed_below : (v : ℕ) → seed v < F.q
   unfolding seed
-  seed_below v =
-      cond_both (ltb v (suc (parity code))) (solved.0 v) 0 (λ s. s < F.q)
-      (λ h. solved.1.below v (ltb-true v (suc (parity code)) h)) (λ h. zero_below F L)
+  seed_below v = grind (arith, common_steps, cond_both, ltb-true, zero_below)
 
   seed_vanishes : (i : ℕ) → i < parity code → sum F code.n (λ j. F.mul (power F F.α (i * j)) (seed j)) ≡ 0
   seed_vanishes i l =

@@ -4,13 +4,13 @@
 
 ghost use Rattle.losses.specs.Losses.{AnyNodesLost, AnyNodesLostSharper, NoMoreNodes};
 
-// Any r + a nodes may be lost where n > (r + a)·max(m, a − 1), and also where only n > (r + a)·m.
+/// Any r + a nodes may be lost where n > (r + a)·max(m, a − 1), and also where only n > (r + a)·m.
 pub fn any_nodes_lost()
     ensures wide { AnyNodesLost }
     ensures sharper { AnyNodesLostSharper }
 {}
 
-// Where k > a, some r + a + 1 nodes may not be lost.
+/// Where k > a, some r + a + 1 nodes may not be lost.
 pub fn no_more_nodes()
     ensures { NoMoreNodes }
 {}

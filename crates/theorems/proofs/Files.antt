@@ -1,5 +1,6 @@
 -- Files: made from a function of the place, from an array, and compared.
-use Rattle.std.proofs.Common.{◌≡◌, ℕ, ◌+◌, ◌*◌, ◌/◌, ◌%◌, ◌<◌, ◌≤◌, cond, eqb, List, map, length, get_or, sym, refl, ap, ◌∙◌, subst, ap₂, arith, ext_get_or}
+use Rattle.std.proofs.lemmas.Grind.{common_steps}
+use Rattle.std.proofs.Common.{◌≡◌, ℕ, ◌+◌, ◌*◌, ◌/◌, ◌%◌, ◌<◌, cond, eqb, List, map, get_or, sym, refl, ap, ◌∙◌, ap₂, arith, ext_get_or}
 use native.Mathlib.Decide.{dec_lt}
 use Rattle.std.specs.List.{range_with_len}
 use Rattle.std.proofs.lemmas.List.FromFn.{length-map-range_with_len, get_or-map-range_with_len}
@@ -15,11 +16,7 @@ use Rattle.theorems.proofs.Ruled.{Ruled}
 
 -- each number that a file gives is a symbol, also past its end, where it gives 0
 pub file_below : (F : Operations) → Laws F → (code : Code) (file : List ℕ) → IsFile F code file → (p : ℕ) → get_or file p 0 < F.q
-file_below F L code file I p =
-    elim (dec_lt p (length file)) [
-      | yes h ↦ I.symbols p h
-      | no h ↦ let past : length file ≤ p = omega arith in rw (get_or_past file p 0 past) (zero_below F L)
-    ]
+file_below F L code file I p = grind (arith, common_steps, get_or_past, zero_below)
 
 -- files with the same symbols are the same
 pub same_file : (F : Operations) (code : Code) (u v : List ℕ) → IsFile F code u → IsFile F code v
@@ -47,14 +44,7 @@ module _ (F : Operations) (L : Laws F) (code : Code) where
 
   pub file_from_is : (at : ℕ → ℕ) → ((p : ℕ) → p < code.k * code.m → at p < F.q) → IsFile F code (file_from at)
   unfolding file_from
-  file_from_is at below = record {
-    long = long;
-    symbols = λ p l. let inside : p < code.k * code.m = omega (arith, long) in
-        subst (λ u. u < F.q) (sym (get_or-map-range_with_len at 0 (code.k * code.m) p p 0 inside (omega arith))) (below p inside);
-  }
-    where
-      long : length (map at (range_with_len 0 (code.k * code.m))) ≡ code.k * code.m
-      long = length-map-range_with_len at 0 (code.k * code.m)
+  file_from_is at below = grind (arith, common_steps, get_or-map-range_with_len, length-map-range_with_len)
 
   -- the file with which an array starts
   pub start_of : Symbols → List ℕ
@@ -63,9 +53,7 @@ module _ (F : Operations) (L : Laws F) (code : Code) where
   -- An array that keeps both rules is the stripe of the file with which it starts.
   pub start_is : (x : Symbols) → Ruled F code x → IsFile F code (start_of x)
   unfolding start_of
-  start_is x X =
-      file_from_is (λ p. x (p / code.m) (p % code.m))
-      (λ p l. let at = place_node code p l in X.symbols (p / code.m) (p % code.m) (omega (arith, code.data_nodes)) (omega arith))
+  start_is x X = grind (arith, common_steps, file_from_is, place_node)
 
   pub start_stripe : (x : Symbols) → Ruled F code x → StripeOf F code (start_of x) x
   unfolding start_of

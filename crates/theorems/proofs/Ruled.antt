@@ -1,6 +1,7 @@
 -- Arrays of symbols that keep both rules: stripes without their files. Sums, differences and multiples of such arrays
 -- keep both rules, one that is 0 in the data columns of the first k nodes is 0, and data columns that keep the column
 -- rule have coded columns.
+use Rattle.std.proofs.lemmas.Grind.{common_steps}
 use Rattle.std.proofs.Common.{◌≡◌, ℕ, zero, suc, ◌+◌, ◌-◌, ◌*◌, ◌<◌, ◌≤◌, cond, ltb, List, length, sym, ap, ◌∙◌, subst, ap₂, arith}
 use mathlib.Core.Path.{fun_ext}
 use native.Mathlib.Decide.{dec_lt}
@@ -210,11 +211,7 @@ module _ (F : Operations) (L : Laws F) (code : Code) where
   with_coded_below : (y : Symbols) → ((j t : ℕ) → j < code.n → t < code.m → y j t < F.q)
       → (j c : ℕ) → j < code.n → with_coded y j c < F.q
   unfolding with_coded group_sum
-  with_coded_below y below j c l =
-      cond_both (ltb c code.m) (y j c) (group_sum y (behind code.n j (c - code.m)) (c - code.m)) (λ u. u < F.q)
-      (λ e. below j c l (ltb-true c code.m e))
-      (λ e. sum_below F L code.m
-      (λ t. F.mul (power F F.α ((c - code.m) * t)) (y (behind code.n (behind code.n j (c - code.m)) (t + 1)) t)))
+  with_coded_below y below j c l = grind (arith, common_steps, below, cond_both, group_sum, ltb-true, sum_below)
 
   -- Data columns of symbols that keep the column rule, together with their coded columns, keep both rules.
   pub with_coded_ruled : (y : Symbols) → ((j t : ℕ) → j < code.n → t < code.m → y j t < F.q) → ColumnRule F code y
