@@ -1,4 +1,5 @@
 -- The wanted cells are all different.
+use Rattle.std.proofs.lemmas.Grind.{common_steps}
 use Rattle.std.proofs.Common.{◌≡◌, ℕ, ◌+◌, ◌-◌, ◌*◌, ◌/◌, ◌%◌, ◌<◌, ◌≤◌, ◌⊎◌, sym, refl, ap, ◌∙◌, inl, inr, arith}
 use Rattle.std.proofs.lemmas.Bool.{cases_lt, cases_eq}
 use Rattle.code.specs.declared.record.Code.{Code}
@@ -15,24 +16,10 @@ counted code p h = place_parts (width code) code.m p (omega arith) (omega arith)
 
 -- no place has the column t itself, and each column is in one place
 pub without_apart : (t s : ℕ) → (s ≡ 0 → ⊥) → without t s ≡ t → ⊥
-without_apart t s nz e =
-    elim (cases_lt t s) [
-      | inl l ↦ omega (arith, without_after t s l)
-      | inr l ↦ omega (arith, without_before t s l)
-    ]
+without_apart t s nz e = grind (arith, common_steps)
 
 pub without_same : (t s s' : ℕ) → (s ≡ 0 → ⊥) → (s' ≡ 0 → ⊥) → without t s ≡ without t s' → s ≡ s'
-without_same t s s' nz nz' e =
-    elim (cases_lt t s) [
-      | inl l ↦ elim (cases_lt t s') [
-        | inl k ↦ omega (arith, without_after t s l, without_after t s' k)
-        | inr k ↦ omega (arith, without_after t s l, without_before t s' k)
-      ]
-      | inr l ↦ elim (cases_lt t s') [
-        | inl k ↦ omega (arith, without_before t s l, without_after t s' k)
-        | inr k ↦ omega (arith, without_before t s l, without_before t s' k)
-      ]
-    ]
+without_same t s s' nz nz' e = grind (arith, common_steps)
 
 -- A wanted cell by the column c that it is for and its place s there: its node is the remainder of v, its column is u.
 pub record Cell (code : Code) (f c s v u : ℕ) : Type 0 where

@@ -1,4 +1,5 @@
 -- What the symbols given for a column make, one symbol after the other.
+use Rattle.std.proofs.lemmas.Grind.{common_steps}
 use Rattle.std.proofs.Common.{◌≡◌, ℕ, zero, suc, ◌+◌, ◌-◌, ◌*◌, ◌<◌, ◌≤◌, List, length, sym, ap, ◌∙◌, inl, inr, add-one, arith}
 use Rattle.std.proofs.lemmas.Bool.{lt-ltb, le-ltb, cases_lt}
 use Rattle.field.specs.Laws.{Operations, Laws}
@@ -13,16 +14,7 @@ use Rattle.round.specs.declared.state.Wanting.{Wanting}
 pub at_start : {X : Type 0} (F : Operations) (code : Code) (f : ℕ) (symbols : List ℕ) (w : Wanting X)
     → w.code ≡ code → w.node ≡ f → w.column * code.m ≡ length symbols → AllSymbols F symbols → w.place ≡ 0 → w.weight ≡ 1
     → Wants F code f symbols w
-at_start F code f symbols w hc hn count all hp hw =
-    let m : w.code.m ≡ code.m = ap (λ (x : Code). x.m) hc in
-    record {
-      code_is = hc;
-      node_is = hn;
-      count = rw (hp, m) (omega arith);
-      accepted = all;
-      so_far = λ h. absurd (omega arith);
-      factor = rw (hp, hw) (sym (power-times-zero F F.α (w.column - code.m)));
-    }
+at_start F code f symbols w hc hn count all hp hw = grind (arith, common_steps, power-times-zero)
 
 -- in a data column: the first minus the sum of the others
 pub made_data : (F : Operations) (code : Code) (c s : ℕ) (y : ℕ → ℕ) → c < code.m
@@ -39,13 +31,7 @@ made_coded F code c s y h = let t = le-ltb c code.m h in rw t
 -- one symbol makes itself
 pub made_one : (F : Operations) → Laws F → (code : Code) (c : ℕ) (y : ℕ → ℕ) → y 0 < F.q → made F code c 1 y ≡ y 0
 unfolding sum
-made_one F L code c y h =
-    elim (cases_lt c code.m) [
-      | inl l ↦ made_data F code c 1 y l ∙ sub-zero F L (y 0) h
-      | inr l ↦ made_coded F code c 1 y l
-          ∙ sum_one F L (λ u. F.mul (α_power F ((c - code.m) * u)) (y u)) (L.mul_below _ (y 0))
-          ∙ ap (λ x. F.mul x (y 0)) (power-times-zero F F.α (c - code.m)) ∙ one-mul F L (y 0) h
-    ]
+made_one F L code c y h = grind (arith, common_steps, made_coded, made_data, one-mul, power-times-zero, sub-zero, sum_one)
 
 -- in a data column one symbol more is taken away
 pub data_more : (F : Operations) → Laws F → (code : Code) (c s : ℕ) (y : ℕ → ℕ) → c < code.m → 0 < s
@@ -66,24 +52,9 @@ data_more F L code c (suc s) y l pos =
 -- in a coded column one symbol more is added, times its factor
 pub coded_more : (F : Operations) (code : Code) (c s : ℕ) (y : ℕ → ℕ) → code.m ≤ c
     → made F code c (s + 1) y ≡ F.add (made F code c s y) (F.mul (α_power F ((c - code.m) * s)) (y s))
-coded_more F code c s y l =
-    made_coded F code c (s + 1) y l
-    ∙ sum_next F s (λ u. F.mul (α_power F ((c - code.m) * u)) (y u))
-    ∙ ap (λ v. F.add v (F.mul (α_power F ((c - code.m) * s)) (y s))) (sym (made_coded F code c s y l))
+coded_more F code c s y l = grind (arith, common_steps, made_coded, sum_next)
 
 -- only the symbols given count
 pub made_same : (F : Operations) (code : Code) (c s : ℕ) (y z : ℕ → ℕ) → 0 < s → ((u : ℕ) → u < s → y u ≡ z u)
     → made F code c s y ≡ made F code c s z
-made_same F code c s y z pos same =
-    elim (cases_lt c code.m) [
-      | inl l ↦
-          let first = same 0 pos in
-          let others = sum_same F (s - 1) (λ u. y (u + 1)) (λ u. z (u + 1)) (λ u h. same (u + 1) (omega arith)) in
-          made_data F code c s y l ∙ ap (λ v. F.sub v (sum F (s - 1) (λ u. y (u + 1)))) first
-          ∙ ap (F.sub (z 0)) others ∙ sym (made_data F code c s z l)
-      | inr l ↦
-          made_coded F code c s y l
-          ∙ sum_same F s (λ u. F.mul (α_power F ((c - code.m) * u)) (y u)) (λ u. F.mul (α_power F ((c - code.m) * u)) (z u))
-          (λ u h. ap (F.mul (α_power F ((c - code.m) * u))) (same u h))
-          ∙ sym (made_coded F code c s z l)
-    ]
+made_same F code c s y z pos same = grind (arith, common_steps, made_coded, made_data, sum_same)

@@ -1,4 +1,5 @@
 -- The group rule gives each symbol of a node from the wanted cells.
+use Rattle.std.proofs.lemmas.Grind.{common_steps}
 use Rattle.std.proofs.Common.{◌≡◌, ℕ, zero, suc, ◌+◌, ◌-◌, ◌*◌, ◌%◌, ◌<◌, ◌≤◌, List, map, sym, refl, ap, ◌∙◌, inl, inr, add-zero, mod-lt, mod-eq_of_lt, zero-add, zero-mul, add-one, arith}
 use Rattle.std.specs.List.{range_with_len}
 use Rattle.std.proofs.lemmas.List.FromFn.{fill_by_all, get_or-map-range_with_len, length-map-range_with_len}
@@ -42,9 +43,7 @@ sum_apart F L (suc k) t g l =
 
 pub sum_without : (F : Operations) → Laws F → (m t : ℕ) (g : ℕ → ℕ) → t < m
     → sum F m g ≡ F.add (g t) (sum F (m - 1) (λ s. g (without t (s + 1))))
-sum_without F L m t g l =
-    let m_is : suc (m - 1) ≡ m = omega arith in
-    ap (λ k. sum F k g) (sym m_is) ∙ sum_apart F L (m - 1) t g (omega arith)
+sum_without F L m t g l = grind (arith, common_steps, sum_apart)
 
 module _ (F : Operations) (L : Laws F) (code : Code) (file : List ℕ) (x : Symbols) (S : StripeOf F code file x) (f : ℕ) (known : f < code.n) where
   -- the symbol of the cell that is wanted as number s for column c

@@ -1,4 +1,5 @@
 -- Which nodes a round asks, and how many.
+use Rattle.std.proofs.lemmas.Grind.{common_steps}
 use Rattle.std.proofs.Common.{◌≡◌, ℕ, ◌+◌, ◌-◌, ◌*◌, ◌/◌, ◌%◌, ◌<◌, ◌≤◌, cond, ltb, List, map, length, get_or, sym, refl, ap, ◌∙◌, subst, inl, inr, zero-add, arith}
 use native.Mathlib.Nat.{add-mod_right}
 use Rattle.std.specs.List.{range_with_len}
@@ -107,27 +108,7 @@ module _ (code : Code) (f : ℕ) (known : f < code.n) where
 
   nodes_apart : (d e : ℕ) → d < many → e < many → node_at d ≡ node_at e → d ≡ e
   unfolding many
-  nodes_apart d e hd he same =
-      let n = code.n in
-      let room = code.room in
-      elim (cases_lt d code.m) [
-        | inl l ↦ elim (cases_lt e code.m) [
-          | inl k ↦
-              let s : ahead n f (d + 1) ≡ ahead n f (e + 1) = sym (ahead_at d l) ∙ same ∙ ahead_at e k in
-              omega (arith, ahead_cases n f (d + 1) known (omega arith), ahead_cases n f (e + 1) known (omega arith))
-          | inr k ↦
-              let s : ahead n f (d + 1) ≡ behind n f (e - code.m + 1) = sym (ahead_at d l) ∙ same ∙ behind_at e k in
-              omega (arith, ahead_cases n f (d + 1) known (omega arith), behind_cases n f (e - code.m + 1) known (omega arith))
-        ]
-        | inr l ↦ elim (cases_lt e code.m) [
-          | inl k ↦
-              let s : behind n f (d - code.m + 1) ≡ ahead n f (e + 1) = sym (behind_at d l) ∙ same ∙ ahead_at e k in
-              omega (arith, behind_cases n f (d - code.m + 1) known (omega arith), ahead_cases n f (e + 1) known (omega arith))
-          | inr k ↦
-              let s : behind n f (d - code.m + 1) ≡ behind n f (e - code.m + 1) = sym (behind_at d l) ∙ same ∙ behind_at e k in
-              omega (arith, behind_cases n f (d - code.m + 1) known (omega arith), behind_cases n f (e - code.m + 1) known (omega arith))
-        ]
-      ]
+  nodes_apart d e hd he same = grind (arith, common_steps, ahead_at, ahead_cases, behind_at, behind_cases)
 
   node_near : (d : ℕ) → d < many → Near code f (node_at d)
   unfolding many

@@ -1,4 +1,5 @@
 -- The wanted cell by column and place.
+use Rattle.std.proofs.lemmas.Grind.{common_steps}
 use Rattle.std.proofs.Common.{◌≡◌, ℕ, ◌+◌, ◌-◌, ◌*◌, ◌/◌, ◌%◌, ◌<◌, ◌≤◌, ap, ◌∙◌, arith}
 use lib.Arith.{digits_div, digits_mod}
 use Rattle.std.proofs.lemmas.Bool.{lt-ltb, le-ltb, le-leb, lt-leb, ne_eqb}
@@ -27,42 +28,25 @@ without_after t s h = rw (lt-leb s t h)
 
 -- the three kinds of wanted cells
 pub first_cell : (code : Code) (f c s : ℕ) → c < code.m → s ≡ 0 → wanted code f (c * code.m + s) ≡ (ahead code.n f (c + 1), code.m)
-first_cell code f c s h z =
-    let t = lt-ltb c code.m h in
-    ap (λ x. wanted code f (c * code.m + x)) z ∙ wanted_at code f c 0 (omega arith) ∙ rw t
+first_cell code f c s h z = grind (arith, common_steps, lt-ltb, wanted_at)
 
 pub other_cell : (code : Code) (f c s : ℕ) → c < code.m → (s ≡ 0 → ⊥) → s < code.m
     → wanted code f (c * code.m + s) ≡ (behind code.n (f + c) (without c s), without c s)
-other_cell code f c s hc nz h =
-    let t = lt-ltb c code.m hc in
-    let z = ne_eqb s 0 nz in
-    wanted_at code f c s h ∙ rw (t, z)
+other_cell code f c s hc nz h = grind (arith, common_steps, lt-ltb, ne_eqb, wanted_at)
 
 pub coded_cell : (code : Code) (f c s : ℕ) → code.m ≤ c → s < code.m
     → wanted code f (c * code.m + s) ≡ (behind code.n f (c - code.m + s + 1), s)
-coded_cell code f c s lo h =
-    let t = le-ltb c code.m lo in
-    wanted_at code f c s h ∙ rw t
+coded_cell code f c s lo h = grind (arith, common_steps, le-ltb, wanted_at)
 
 -- the same with one remainder
 pub wanted_first : (code : Code) (f c s : ℕ) → c < code.m → s ≡ 0
     → wanted code f (c * code.m + s) ≡ ((f + c + 1) % code.n, code.m)
-wanted_first code f c s h z =
-    let e : f + (c + 1) ≡ f + c + 1 = omega arith in
-    first_cell code f c s h z ∙ ap (λ x. (x % code.n, code.m)) e
+wanted_first code f c s h z = grind (arith, common_steps, first_cell)
 
 pub wanted_other : (code : Code) (f c s u : ℕ) → c < code.m → (s ≡ 0 → ⊥) → s < code.m → without c s ≡ u
     → wanted code f (c * code.m + s) ≡ ((f + c + code.n - u) % code.n, u)
-wanted_other code f c s u hc nz h is =
-    let room = code.room in
-    let near : without c s < code.n = omega (arith, without_le c s) in
-    other_cell code f c s hc nz h
-    ∙ ap (λ x. (x, without c s)) (behind_small code.n (f + c) (without c s) near)
-    ∙ ap (λ x. ((f + c + code.n - x) % code.n, x)) is
+wanted_other code f c s u hc nz h is = grind (arith, common_steps, behind_small, other_cell, without_le)
 
 pub wanted_coded : (code : Code) (f c s : ℕ) → code.m ≤ c → c < code.m + code.a → s < code.m
     → wanted code f (c * code.m + s) ≡ ((f + code.n - (c - code.m + s + 1)) % code.n, s)
-wanted_coded code f c s lo hi h =
-    let room = code.room in
-    let near : c - code.m + s + 1 < code.n = omega arith in
-    coded_cell code f c s lo h ∙ ap (λ x. (x, s)) (behind_small code.n f (c - code.m + s + 1) near)
+wanted_coded code f c s lo hi h = grind (arith, common_steps, behind_small, coded_cell)

@@ -1,4 +1,5 @@
 -- Which refusals a rebuilding has, and what it writes.
+use Rattle.std.proofs.lemmas.Grind.{common_steps}
 use Rattle.std.proofs.Common.{◌≡◌, ℕ, ◌*◌, ◌<◌, ◌≤◌, List, length, get_or, take, Err, Result, sym, refl, ◌∙◌, subst, inl, inr, arith, lit≤}
 use Rattle.std.proofs.lemmas.List.FromFn.{fill_by_all}
 use Rattle.std.proofs.lemmas.List.{length-take-le, get_or-take}
@@ -29,16 +30,10 @@ module _ (F : Operations) (code : Code) (f : ℕ) (cells out : List ℕ)
   unfit_or_none Allowance r = absurd r
 
   pub unfit_refused : (e : Refusal) → e ≡ Symbol → Unfit F code f cells → Rebuilds F code f cells out out (Err e)
-  unfit_refused e is u =
-      subst (λ (x : Refusal). Rebuilds F code f cells out out (Err x)) (sym is)
-      (u, (λ e' r. rw (unfit_or_none e' r) (lit≤ tt)), refl)
+  unfit_refused e is u = grind (arith, common_steps)
 
   pub none_refused : ((p : ℕ) → p < whole code → asked code f cells p < F.q) → (e : Refusal) → Refused F code f cells out e → ⊥
-  none_refused all e r =
-      let u = subst (Refused F code f cells out) (unfit_or_none e r) r in
-      let below = all u.0 u.1 in
-      let above = u.2 in
-      omega arith
+  none_refused all e r = grind (arith, common_steps)
 
 -- the front of the symbols that were taken
 pub front_is : (F : Operations) (code : Code) (f : ℕ) (cells front : List ℕ) → width code ≤ length front
@@ -50,5 +45,4 @@ front_is F code f cells front long all =
 -- the same run, by the code and the node that were asked for
 pub runs_for : (F : Operations) (code code' : Code) (f f' : ℕ) (cells : List ℕ) (r : Result (ℕ × List ℕ) Refusal) → code ≡ code' → f ≡ f'
     → Runs F code f cells r → Runs F code' f' cells r
-runs_for F code code' f f' cells r c-is f-is ran =
-    subst (λ (k : Code). Runs F k f' cells r) c-is (subst (λ (j : ℕ). Runs F code j cells r) f-is ran)
+runs_for F code code' f f' cells r c-is f-is ran = grind (arith, common_steps)

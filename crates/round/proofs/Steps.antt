@@ -1,8 +1,10 @@
 -- A round that is given one symbol more.
+use Rattle.std.proofs.lemmas.Grind.{common_steps}
 use Rattle.std.proofs.Common.{◌≡◌, ℕ, ◌+◌, ◌-◌, ◌*◌, ◌<◌, ◌≤◌, List, [], ◌∷◌, ◌++◌, length, sym, ap, ◌∙◌, subst, inl, inr, arith}
 use Rattle.std.proofs.lemmas.Bool.{cases_lt, cases_eq}
 use Rattle.std.proofs.lemmas.List.{get_or_push, get_or_append_left, length_push}
 use Rattle.field.specs.Laws.{Operations, Laws}
+use Rattle.field.specs.Powers.{multiplies, power-add}
 use Rattle.code.specs.declared.record.Code.{Code}
 use Rattle.round.specs.Wanted.{made, rebuilt, α_power}
 use Rattle.round.specs.States.{Wants, Holds, of_column, AllSymbols}
@@ -12,12 +14,7 @@ use Rattle.round.proofs.Making.{made_one, data_more, coded_more, made_same}
 
 -- the symbols stay symbols
 pub symbols_more : (F : Operations) (symbols : List ℕ) (v : ℕ) → AllSymbols F symbols → v < F.q → AllSymbols F (symbols ++ v ∷ [])
-symbols_more F symbols v all h p below =
-    let long = length_push symbols v in
-    elim (cases_lt p (length symbols)) [
-      | inl l ↦ rw (get_or_append_left symbols (v ∷ []) 0 p l) (all p l)
-      | inr l ↦ rw (get_or_push symbols v 0 p (omega arith)) h
-    ]
+symbols_more F symbols v all h p below = grind (arith, common_steps)
 
 -- What a round with s symbols for column c makes of one more, v.
 pub record Joins (F : Operations) (code : Code) (c s so_far weight v r : ℕ) : Type 0 where
@@ -83,26 +80,13 @@ pub now_holds : {X : Type 0} (F : Operations) (L : Laws F) (code : Code) (f : �
     → h.code ≡ w.code → h.node ≡ w.node → h.column ≡ w.column → w.place + 1 ≡ w.code.m
     → Joins F w.code w.column w.place w.made w.weight v h.made
     → Holds F code f (symbols ++ v ∷ []) h
-now_holds F L code f symbols w v h was below hc hn hcol full joins =
-    let m : w.code.m ≡ code.m = ap (λ (x : Code). x.m) was.code_is in
-    let m' : h.code.m ≡ code.m = ap (λ (x : Code). x.m) (hc ∙ was.code_is) in
-    let count : w.column * code.m + w.place ≡ length symbols = rw (← m) was.count in
-    let y = joined_is F L code symbols w.column w.place w.made w.weight v h.made count was.accepted below was.so_far was.factor
-    (subst (λ (x : Code). Joins F x w.column w.place w.made w.weight v h.made) was.code_is joins) in
-    record {
-      code_is = hc ∙ was.code_is;
-      node_is = hn ∙ was.node_is;
-      count = rw (hcol, m', length_push) (omega arith);
-      accepted = symbols_more F symbols v was.accepted below;
-      finished = y ∙ ap (λ k. made F code w.column k (of_column code (symbols ++ v ∷ []) w.column)) (full ∙ m)
-          ∙ ap (λ k. rebuilt F code k (of_column code (symbols ++ v ∷ []) k)) (sym hcol);
-    }
+now_holds F L code f symbols w v h was below hc hn hcol full joins = grind (arith, common_steps, joined_is, length_push, symbols_more)
 
 -- the symbol given was not the last one for its column
 pub still_wants : {X : Type 0} (F : Operations) (L : Laws F) (code : Code) (f : ℕ) (symbols : List ℕ) (w : Wanting X) (v : ℕ) (w' : Wanting X)
     → Wants F code f symbols w → v < F.q
     → w'.code ≡ w.code → w'.node ≡ w.node → w'.column ≡ w.column → w'.place ≡ w.place + 1
-    → w'.weight ≡ α_power F ((w.column - code.m) * w.place + (w.column - code.m))
+    → w'.weight ≡ F.mul w.weight (α_power F (w.column - w.code.m))
     → Joins F w.code w.column w.place w.made w.weight v w'.made
     → Wants F code f (symbols ++ v ∷ []) w'
 still_wants F L code f symbols w v w' was below hc hn hcol one_more hw joins =
@@ -120,5 +104,7 @@ still_wants F L code f symbols w v w' was below hc hn hcol one_more hw joins =
       count = rw (hcol, m', one_more, length_push) (omega arith);
       accepted = symbols_more F symbols v was.accepted below;
       so_far = λ _. y ∙ ap (λ k. made F code w.column k (all w.column)) (sym one_more) ∙ ap (λ k. made F code k w'.place (all k)) (sym hcol);
-      factor = hw ∙ ap (α_power F) exponent ∙ ap (λ k. α_power F (d * k)) (sym one_more) ∙ ap (λ k. α_power F ((k - code.m) * w'.place)) (sym hcol);
+      factor = hw ∙ ap (λ x. F.mul x (α_power F (w.column - w.code.m))) was.factor
+          ∙ ap (λ k. F.mul (α_power F (d * w.place)) (α_power F (w.column - k))) m
+          ∙ sym (power-add F (multiplies F L) F.α (d * w.place) d L.generator_below) ∙ ap (α_power F) exponent ∙ ap (λ k. α_power F (d * k)) (sym one_more) ∙ ap (λ k. α_power F ((k - code.m) * w'.place)) (sym hcol);
     }

@@ -2,12 +2,12 @@
 #![tactic(auto)]
 
 ghost use Rattle.std.specs.Prelude.{◌≡◌, ℕ, ◌+◌, ◌<◌, ◌≤◌};
-ghost use Rattle.round.specs.Wanted.{wanted, α_power};
+ghost use Rattle.round.specs.Wanted.{wanted};
 ghost use Rattle.round.specs.Round.{nodes_asked, EveryRound};
 ghost use Rattle.round.specs.States.{given_wanting, given_holding, given_over, Begun, Gives, Takes};
 
 use code::{Code, Refusal};
-use field::Field;
+use field::{Field, power};
 use std::marker::PhantomData;
 
 mod state;
@@ -17,7 +17,7 @@ pub use state::{Declined, Given, Holding, Over, Taken, Wanting};
 pub use whole::rebuild;
 
 impl<F: Field> Wanting<F> {
-    // The round for a node of the code; refusal 5 where the node is outside.
+    /// The round for a node of the code; refusal 5 where the node is outside.
     pub fn begin(code: &Code, node: usize) -> Result<Wanting<F>, Refusal>
         ensures { Begun F.ops code.now node result }
     {
@@ -35,38 +35,36 @@ impl<F: Field> Wanting<F> {
         })
     }
 
-    // How many symbols were given.
+    /// How many symbols were given.
     pub fn given(&self) -> usize
         ensures { result ≡ given_wanting self.now }
     {
         self.place + self.column * self.code.data_columns()
     }
 
-    // The cell that is wanted next, a pair (node, column).
+    /// The cell that is wanted next, a pair (node, column).
     pub fn wanted(&self) -> (usize, usize)
-        ensures { result ≡ wanted self.now.code self.now.node
-            (given_wanting self.now) }
+        ensures { result ≡ wanted self.now.code self.now.node (given_wanting self.now) }
     {
-        let n = self.code.nodes();
         let m = self.code.data_columns();
         if self.column >= m {
             let back = self.column - m + self.place + 1;
-            return ((self.node + n - back) % n, self.place);
+            return (self.code.behind(self.node, back), self.place);
         }
         if self.place == 0 {
-            return ((self.node + self.column + 1) % n, m);
+            return (self.code.ahead(self.node, self.column + 1), m);
         }
         let column = if self.place <= self.column {
             self.place - 1
         } else {
             self.place
         };
-        ((self.node + self.column + n - column) % n, column)
+        (self.code.behind(self.node + self.column, column), column)
     }
 
-    // Gives the symbol of the wanted cell. A number that is no symbol of the field is declined with
-    // refusal 6, and the round comes back.
-    pub fn give(self, symbol: u16) -> Result<Given<F>, Declined<F>>
+    /// Gives the symbol of the wanted cell. A number that is no symbol of the field is declined with
+    /// refusal 6, and the round comes back.
+    pub fn give(mut self, symbol: u16) -> Result<Given<F>, Declined<F>>
         ensures { Gives F.ops self symbol result }
     {
         if u32::from(symbol) >= F::SIZE {
@@ -75,17 +73,17 @@ impl<F: Field> Wanting<F> {
                 round: self,
             });
         }
-        let made = self.joined(symbol);
-        let Wanting {
-            code,
-            node,
-            column,
-            place,
-            made: _,
-            weight,
-            field,
-        } = self;
-        if place + 1 == code.data_columns() {
+        self.made = self.joined(symbol);
+        let m = self.code.data_columns();
+        if self.place + 1 == m {
+            let Wanting {
+                code,
+                node,
+                column,
+                made,
+                field,
+                ..
+            } = self;
             return Ok(Given::Holding(Holding {
                 code,
                 node,
@@ -94,16 +92,10 @@ impl<F: Field> Wanting<F> {
                 field,
             }));
         }
-        let weight = raised::<F>(weight, column.saturating_sub(code.data_columns()));
-        Ok(Given::Wanting(Wanting {
-            code,
-            node,
-            column,
-            place: place + 1,
-            made,
-            weight,
-            field,
-        }))
+        let step = power::<F>(F::GENERATOR, self.column.saturating_sub(m));
+        self.weight = F::product(self.weight, step);
+        self.place += 1;
+        Ok(Given::Wanting(self))
     }
 
     // What the symbols given for the present column make together with one more.
@@ -127,28 +119,28 @@ impl<F: Field> Wanting<F> {
 }
 
 impl<F: Field> Holding<F> {
-    // How many symbols were given.
+    /// How many symbols were given.
     pub fn given(&self) -> usize
         ensures { result ≡ given_holding self.now }
     {
         (self.column + 1) * self.code.data_columns()
     }
 
-    // The column whose symbol is finished.
+    /// The column whose symbol is finished.
     pub fn column(&self) -> usize
         ensures { result ≡ self.now.column }
     {
         self.column
     }
 
-    // The finished symbol.
+    /// The finished symbol.
     pub fn symbol(&self) -> u16
         ensures { result ≡ self.now.made }
     {
         self.made
     }
 
-    // Hands over the finished symbol. The round goes on with the next column, or is over.
+    /// Hands over the finished symbol. The round goes on with the next column, or is over.
     pub fn take(self) -> (u16, Taken<F>)
         ensures { Takes F.ops self result }
     {
@@ -179,7 +171,7 @@ impl<F: Field> Holding<F> {
 }
 
 impl<F: Field> Over<F> {
-    // How many symbols were given: m·(m + a).
+    /// How many symbols were given: m·(m + a).
     pub fn given(&self) -> usize
         ensures { result ≡ given_over self.now }
     {
@@ -187,24 +179,12 @@ impl<F: Field> Over<F> {
     }
 }
 
-// How many nodes a round asks: min(2m + a − 1, n − 1). The m·(m + a) cells that it wants are all
-// different, none of them is in its own node, and of every stripe they make the node's symbols.
+/// How many nodes a round asks: min(2m + a − 1, n − 1). The m·(m + a) cells that it wants are all
+/// different, none of them is in its own node, and of every stripe they make the node's symbols.
 pub fn nodes_asked(code: &Code) -> usize
     ensures count { result ≡ nodes_asked code.now }
     ensures rounds { EveryRound }
 {
     let near = 2 * code.data_columns() + code.coded_columns() - 1;
     near.min(code.nodes() - 1)
-}
-
-// A power of the generator, as many exponents higher.
-fn raised<F: Field>(power: u16, by: usize) -> u16
-    ensures { (e : ℕ) → power ≡ α_power F.ops e
-        → result ≡ α_power F.ops (e + by) }
-{
-    let mut raised = power;
-    for _i in 0..by {
-        raised = F::product(F::GENERATOR, raised);
-    }
-    raised
 }

@@ -1,12 +1,12 @@
 // The three states of a round, each a type of its own that moves: a state that was used is gone, and
 // only the state that it became can be used next. The field belongs to the type, so that one
-// field serves a whole round.
-ghost use Rattle.std.specs.Prelude.{◌+◌, ◌<◌};
+// field serves a whole round. No state is Clone: a copy could be used twice.
+ghost use Rattle.std.specs.Prelude.{◌≡◌, ◌+◌, ◌<◌};
 
 use code::{Code, Refusal};
 use std::marker::PhantomData;
 
-// A round that wants a symbol.
+/// A round that wants a symbol.
 #[derive(Drop)]
 pub struct Wanting<F> {
     pub(crate) code: Code,
@@ -25,7 +25,7 @@ pub struct Wanting<F> {
     ghost inside: { (column < code.m + code.a) × (place < code.m) },
 }
 
-// A round that has finished the symbol of a column, which is to be taken.
+/// A round that has finished the symbol of a column, which is to be taken.
 #[derive(Drop)]
 pub struct Holding<F> {
     pub(crate) code: Code,
@@ -38,7 +38,7 @@ pub struct Holding<F> {
     ghost inside: { column < code.m + code.a },
 }
 
-// A round whose symbols are all taken.
+/// A round whose symbols are all taken.
 #[derive(Drop)]
 pub struct Over<F> {
     pub(crate) code: Code,
@@ -46,27 +46,38 @@ pub struct Over<F> {
     pub(crate) field: PhantomData<F>,
 }
 
-// What a round becomes that was given a symbol.
+/// What a round becomes that was given a symbol.
 #[derive(Drop)]
 pub enum Given<F> {
-    // it wants another for the same column
+    /// it wants another for the same column
     Wanting(Wanting<F>),
-    // the symbol of the column is finished
+    /// the symbol of the column is finished
     Holding(Holding<F>),
 }
 
-// A symbol that was declined: why, and the round as it was.
+/// A symbol that was declined: why, and the round as it was.
 #[derive(Drop)]
 pub struct Declined<F> {
+    /// 6, the only one: the number is no symbol of the field
     pub refusal: Refusal,
+    /// the round as it was
     pub round: Wanting<F>,
 }
 
-// What a round becomes whose finished symbol was taken.
+/// The refusal alone, as `?` hands it on; the round is dropped.
+impl<F> From<Declined<F>> for Refusal {
+    ghost from_gives = { λ declined refusal. refusal ≡ declined.refusal };
+
+    fn from(declined: Declined<F>) -> Refusal {
+        declined.refusal
+    }
+}
+
+/// What a round becomes whose finished symbol was taken.
 #[derive(Drop)]
 pub enum Taken<F> {
-    // it wants the first symbol for the next column
+    /// it wants the first symbol for the next column
     Wanting(Wanting<F>),
-    // that was the last column
+    /// that was the last column
     Over(Over<F>),
 }

@@ -1,6 +1,5 @@
-use Rattle.std.proofs.Common.{rules}
 use Rattle.round.proofs.Rounds.{every_round}
 use Rattle.round.proofs.nodes_asked.Goals as goal
 
-pub returns : goal.returns
-returns c = record { count = search rules; rounds = every_round }
+pub returns-clause-rounds : goal.returns-clause-rounds
+returns-clause-rounds c = every_round

@@ -1,16 +1,16 @@
-use Rattle.std.proofs.Common.{◌≡◌, ◌+◌, ◌-◌, ◌*◌, ◌<◌, refl, ap, ◌∙◌, arith}
-use Rattle.code.specs.declared.record.Code.{Code}
+use Rattle.std.proofs.Common.{◌≡◌, ◌+◌, ◌-◌, ◌<◌, refl, ap, ◌∙◌, arith}
+use Rattle.field.specs.Laws.{power}
 use Rattle.round.specs.Wanted.{α_power}
 use Rattle.round.proofs.Steps.{now_holds, still_wants}
 use Rattle.round.proofs.state.Wanting.give.Goals as goal
 
-pub returns-then-place-data_columns : goal.returns-then-place-data_columns
-returns-then-place-data_columns g c =
+pub returns-then-self-m : goal.returns-then-self-m
+returns-then-self-m g c =
     let w = c.args.self in
     let F = g.F.Field.ops in
-    let j = c.joined-made.ensures in
+    let j = c.joined.ensures in
     let one_more : w.place + 1 ≡ w.code.m = omega arith in
-    let below : c.args.symbol < F.q = omega arith in
+    let below : c.args.symbol < F.q = omega (arith, g.met.F.Field.size) in
     record {
       symbol = below;
       last = one_more;
@@ -27,20 +27,20 @@ pub returns : goal.returns
 returns g c =
     let w = c.args.self in
     let F = g.F.Field.ops in
-    let j = c.joined-made.ensures in
-    let below : c.args.symbol < F.q = omega arith in
-    let more : w.place + 1 < w.code.m = omega arith in
+    let j = c.joined.ensures in
+    let below : c.args.symbol < F.q = omega (arith, g.met.F.Field.size) in
+    let generator : c.GENERATOR.result ≡ F.α = c.GENERATOR.ensures ∙ g.met.F.Field.generator in
+    let by : c.saturating_sub.result ≡ w.column - w.code.m = omega arith in
     record {
       symbol = below;
-      more = more;
+      more = omega arith;
       code_kept = refl;
       node_kept = refl;
       column_kept = refl;
       counted = omega arith;
       given_too = λ code f symbols h.
-          let m : w.code.m ≡ code.m = ap (λ (x : Code). x.m) h.code_is in
-          let by : c.saturating_sub.result ≡ w.column - code.m = omega arith in
           still_wants F g.met.F.Field.laws code f symbols w c.args.symbol _ h below refl refl refl refl
-          (c.raised-weight.ensures ((w.column - code.m) * w.place) h.factor ∙ ap (λ k. α_power F ((w.column - code.m) * w.place + k)) by)
+          (c.product.ensures
+          ∙ ap (F.mul w.weight) (c.power-step.ensures ∙ ap (λ u. power F u c.saturating_sub.result) generator ∙ ap (α_power F) by))
           (record { first = j.first; in_data = j.«data»; in_coded = j.coded });
     }
