@@ -3,7 +3,7 @@
 
 ghost use Rattle.examples.specs.Examples.{ExamplesHold};
 
-// Every example of the list holds.
+/// Every example of the list holds.
 pub fn examples_hold()
     ensures { ExamplesHold }
 {}

@@ -1,4 +1,5 @@
 -- The law: each call of a list keeps what is promised of it.
+use Rattle.std.proofs.lemmas.Grind.{common_steps}
 use Rattle.std.proofs.Common.{◌≡◌, ℕ, ◌+◌, ◌*◌, Bool, List, [], ◌∷◌, get_or, Some, None, Ok, Err, Option, Result, sym, refl, ap, subst, arith}
 use Rattle.field.specs.Laws.{Operations, Laws}
 use Rattle.code.specs.declared.record.Code.{Code}
@@ -188,7 +189,4 @@ blank_mirrors F code m blank = record { gone = blank; said = λ j c lj lc. refl 
 
 -- The law over any list of calls.
 pub calls_law : LawOfCalls
-calls_law = (
-  λ F L code m m' calls answers blank R. throughout F L code empty m calls answers m' (blank_mirrors F code m blank) R,
-  no_more_nodes,
-)
+calls_law = grind (arith, common_steps, blank_mirrors, no_more_nodes, throughout)

@@ -1,4 +1,5 @@
 -- Changing one symbol: afterwards the store holds the changed file.
+use Rattle.std.proofs.lemmas.Grind.{common_steps}
 use Rattle.std.proofs.Common.{◌≡◌, ℕ, ◌+◌, ◌*◌, ◌<◌, Bool, List, length, get_or, set, Some, None, sym, ap, ◌∙◌, arith}
 use native.Mathlib.Decide.{dec_lt, ℕ_discrete}
 use Rattle.std.specs.Option.{option_map}
@@ -31,13 +32,7 @@ data_inside code j t lj lt = (omega (arith, code.data_nodes), omega arith)
 -- setting a symbol of a file makes a file
 set_file : (F : Operations) → Laws F → (code : Code) (file : List ℕ) (p s : ℕ) → IsFile F code file → s < F.q
     → IsFile F code (set file p s)
-set_file F L code file p s I below = record { long = length-set file p s ∙ I.long; symbols = λ o l. at o l (ℕ_discrete o p) }
-  where
-    at : (o : ℕ) → o < length (set file p s) → Dec (o ≡ p) → get_or (set file p s) o 0 < F.q
-    at o l (yes e) =
-        let inside : p < length file = omega (arith, length-set file p s) in
-        rw (e, get_or-set_same file p s 0 inside) below
-    at o l (no away) = rw (get_or-set_other file p o s 0 away) (file_below F L code file I o)
+set_file F L code file p s I below = grind (arith, common_steps, below, file_below, get_or-set_other, get_or-set_same, length-set)
 
 -- with no file no change is accepted: its cell is lost
 pub nothing_to_change : (F : Operations) (code : Code) (m : Meaning) (lost : ℕ → ℕ → Bool) → HoldsNone m lost
@@ -66,25 +61,7 @@ module _ (F : Operations) (L : Laws F) (code : Code) (m : Meaning) (lost : ℕ �
 
   -- the changed file is the sum of the file and the step
   sums : HasSymbols code (λ o. F.add (get_or file o 0) (get_or D.step o 0)) (set file (j * code.m + t) s)
-  sums o l = at (ℕ_discrete o (j * code.m + t))
-    where
-      u : ℕ
-      u = get_or file (j * code.m + t) 0
-
-      inside : j * code.m + t < length file
-      inside = omega (arith, place_below code.k code.m j t place.0 place.1, H.is_file.long)
-
-      here : s ≡ F.add u (get_or D.step (j * code.m + t) 0)
-      here =
-          sym (sub-add F L s u below) ∙ add_comm F L (F.sub s u) u
-          ∙ ap (λ v. F.add u (F.sub s v)) (sym old_symbol) ∙ ap (F.add u) (sym D.is_step.there)
-
-      at : Dec (o ≡ j * code.m + t) → get_or (set file (j * code.m + t) s) o 0 ≡ F.add (get_or file o 0) (get_or D.step o 0)
-      at (yes e) = rw e (get_or-set_same file (j * code.m + t) s 0 inside ∙ here)
-      at (no away) =
-          get_or-set_other file (j * code.m + t) o s 0 away
-          ∙ sym (add-zero F L (get_or file o 0) (file_below F L code file H.is_file o))
-          ∙ ap (F.add (get_or file o 0)) (sym (D.is_step.elsewhere o away))
+  sums o l = grind (arith, common_steps, add-zero, add_comm, below, file_below, get_or-set_other, get_or-set_same, old_symbol, place_below, sub-add)
 
   -- the stripe of the changed file
   sum_stripe : Symbols

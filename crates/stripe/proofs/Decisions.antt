@@ -1,4 +1,5 @@
 -- What can be decided: bounded searches, the shape of a store, a cell inside the code.
+use Rattle.std.proofs.lemmas.Grind.{common_steps}
 use Rattle.std.proofs.Common.{◌≡◌, ℕ, zero, suc, ◌+◌, ◌<◌, ◌⊎◌, Some, None, Option, refl, ap, subst, ap₂, inl, inr, arith}
 use native.Mathlib.Decide.{ℕ_discrete}
 use Rattle.code.specs.declared.record.Code.{Code}
@@ -53,12 +54,7 @@ decide_shaped code m = decide_both (ℕ_discrete m.nodes code.n) (ℕ_discrete m
 
 -- two cells are the same or are not
 pub decide_pair : (x y : ℕ × ℕ) → Dec (x ≡ y)
-decide_pair x y = join (ℕ_discrete x.0 y.0) (ℕ_discrete x.1 y.1)
-  where
-    join : Dec (x.0 ≡ y.0) → Dec (x.1 ≡ y.1) → Dec (x ≡ y)
-    join (yes p) (yes q) = yes (ap₂ (λ a b. (a, b)) p q)
-    join (yes p) (no n) = no (λ e. n (ap (λ (z : ℕ × ℕ). z.1) e))
-    join (no n) d = no (λ e. n (ap (λ (z : ℕ × ℕ). z.0) e))
+decide_pair x y = grind (arith, common_steps)
 
 -- a cell is reached by a change or is not
 pub decide_reached : (code : Code) (j t v c : ℕ) → Dec (Reached code j t v c)

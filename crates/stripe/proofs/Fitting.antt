@@ -1,4 +1,5 @@
 -- Which files fit a store that holds what the ledger says.
+use Rattle.std.proofs.lemmas.Grind.{common_steps}
 use Rattle.std.proofs.Common.{◌≡◌, ℕ, ◌+◌, ◌-◌, ◌*◌, ◌<◌, ◌≤◌, max, Bool, List, length, get_or, Some, None, Option, sym, ◌∙◌, inl, inr, mul-le-mul, arith}
 use Rattle.std.proofs.lemmas.Bool.{cases_Bool}
 use Rattle.field.specs.Laws.{Operations, Laws}
@@ -31,31 +32,15 @@ module _ (F : Operations) (L : Laws F) (code : Code) (m : Meaning) (lost : ℕ �
   -- with a file, a present cell holds its symbol in the file's stripe
   pub held_agrees : (file : List ℕ) (H : HoldsFile F code m lost file) (j c v : ℕ) → Inside code j c
       → m.cell j c ≡ Some v → H.stripe j c ≡ v
-  held_agrees file H j c v inside is =
-      let at = in_store code m shaped j c inside in
-      elim (cases_Bool (lost j c)) [
-        | inl gone ↦ absurd (lost_held (m.cell j c) v (H.gone j c at.0 at.1 gone) is)
-        | inr here ↦ let held : m.cell j c ≡ Some (H.stripe j c) = H.held j c at.0 at.1 here in cc
-      ]
+  held_agrees file H j c v inside is = grind (arith, common_steps)
 
   -- the ledger's file fits
   pub ledger_fits : (file : List ℕ) → HoldsFile F code m lost file → Fits F code m.cell file
-  ledger_fits file H = record {
-    is_file = H.is_file;
-    stripe = H.stripe;
-    is_stripe = H.is_stripe;
-    agrees = λ j c v lj lc is. held_agrees file H j c v (lj, lc) is;
-  }
+  ledger_fits file H = grind (arith, common_steps)
 
   -- with no file every file fits
   pub any_fits : HoldsNone m lost → (u : List ℕ) → IsFile F code u → Fits F code m.cell u
-  any_fits H u I = record {
-    is_file = I;
-    stripe = (one_stripe F L code u I).0.0;
-    is_stripe = (one_stripe F L code u I).0.1;
-    agrees = λ j c v lj lc is.
-        let at = in_store code m shaped j c (lj, lc) in absurd (lost_held (m.cell j c) v (H.gone j c at.0 at.1) is);
-  }
+  any_fits H u I = grind (arith, common_steps, in_store, lost_held, one_stripe)
 
   -- with no file some fitting files have 0 and 1 at a place of the file
   pub zero_and_one : HoldsNone m lost → (p : ℕ) → p < code.k * code.m

@@ -1,4 +1,5 @@
 -- Losing cells: afterwards they are lost, and all else is as it was.
+use Rattle.std.proofs.lemmas.Grind.{common_steps}
 use Rattle.std.proofs.Common.{◌≡◌, ℕ, ◌<◌, Bool, true, false, cond, ◌&&◌, ◌||◌, eqb, ltb, List, Some, None, Option, refl, ap, ◌∙◌, arith}
 use Rattle.std.proofs.lemmas.Bool.{lt-ltb}
 use Rattle.field.specs.Laws.{Operations}
@@ -57,9 +58,7 @@ module _ (F : Operations) (code : Code) (m m' : Meaning) (lost : ℕ → ℕ →
 pub lose_cell_mirrors : (F : Operations) (code : Code) (m m' : Meaning) (lost : ℕ → ℕ → Bool) (file : Option (List ℕ)) (node column value : ℕ)
     → CellLost code node column m value m' → HoldsOr F code m lost file
     → HoldsOr F code m' (λ j c. (eqb j node && eqb c column) || lost j c) file
-lose_cell_mirrors F code m m' lost file node column value D =
-    lost_mirrors F code m m' lost (λ j c. eqb j node && eqb c column) D.kept.nodes D.kept.columns
-    (λ j c lj lc. ap (λ f. f j c) D.cells) file
+lose_cell_mirrors F code m m' lost file node column value D = grind (arith, common_steps)
 
 -- after a node is lost the ledger has its cells among the lost ones
 pub lose_node_mirrors : (F : Operations) (code : Code) (m m' : Meaning) (lost : ℕ → ℕ → Bool) (file : Option (List ℕ)) (node value : ℕ)

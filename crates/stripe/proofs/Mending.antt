@@ -1,4 +1,5 @@
 -- Mending one node by a round.
+use Rattle.std.proofs.lemmas.Grind.{common_steps}
 use Rattle.std.proofs.Common.{◌≡◌, ℕ, ◌+◌, ◌*◌, ◌<◌, ◌≤◌, Bool, false, not, ◌&&◌, eqb, ◌⊎◌, List, Some, None, unwrap_or, sym, refl, ap, ◌∙◌, subst, inl, inr, mul-le-mul, arith}
 use native.Mathlib.Decide.{dec_lt}
 use Rattle.std.proofs.lemmas.Bool.{cases_eq, and_parts, and_cases, not-true, not-false, eqb-true, eqb-false}
@@ -24,10 +25,7 @@ use Rattle.stripe.proofs.Reading.{has_shape}
 
 -- a round wants at least one cell
 some_wanted : (code : Code) → 0 < whole code
-some_wanted code = mul-le-mul code.data_columns.0 columns
-  where
-    columns : 1 ≤ width code
-    columns = omega (arith, code.data_columns)
+some_wanted code = grind (arith, common_steps)
 
 -- with no file no mending of a node is accepted: the first wanted cell is lost
 pub nothing_to_rebuild : (F : Operations) (code : Code) (m : Meaning) (lost : ℕ → ℕ → Bool) → HoldsNone m lost → (f : ℕ)
@@ -51,13 +49,7 @@ module _ (F : Operations) (L : Laws F) (code : Code) (m : Meaning) (lost : ℕ �
   -- each wanted cell holds its symbol in the stripe
   wanted_held : (p : ℕ) → p < whole code
       → unwrap_or (m.cell (wanted code f p).0 (wanted code f p).1) 0 ≡ H.stripe (wanted code f p).0 (wanted code f p).1
-  wanted_held p l =
-      elim (lost_or_held (m.cell (wanted code f p).0 (wanted code f p).1)) [
-        | inl gone ↦ absurd (present p l gone)
-        | inr held ↦ ap (λ o. unwrap_or o 0) held.1
-            ∙ sym (held_agrees F L code m lost shaped file H (wanted code f p).0 (wanted code f p).1 held.0
-            ((every_round code f known).inside p l) held.1)
-      ]
+  wanted_held p l = grind (arith, common_steps)
 
   -- the round makes the stripe's symbols of the node
   pub node_rebuilt : (c : ℕ) → c < width code → rebuilt F code c (read_for code m f c) ≡ H.stripe f c
@@ -92,19 +84,7 @@ module _ (F : Operations) (L : Laws F) (code : Code) (m : Meaning) (lost : ℕ �
 
   -- after node f is mended the store holds the ledger's file, and no cell of node f is lost
   pub mend_node_mirrors : HoldsFile F code m' (λ j c. not (eqb j f) && lost j c) file
-  mend_node_mirrors = record {
-    is_file = H.is_file;
-    stripe = H.stripe;
-    is_stripe = H.is_stripe;
-    gone = λ j c lj lc is.
-        let both = and_parts (not (eqb j f)) (lost j c) is in
-        let at = in_store code m shaped j c (inside j c lj lc) in
-        D.others j c (λ h. eqb-false j f (not-true (eqb j f) both.0) h.0) ∙ H.gone j c at.0 at.1 both.1;
-    held = λ j c lj lc is. now_held j c (inside j c lj lc) is (cases_eq j f);
-  }
-    where
-      inside : (j c : ℕ) → j < m'.nodes → c < m'.columns → Inside code j c
-      inside = in_code code m' (shape_kept code m m' _ D.kept shaped)
+  mend_node_mirrors = grind (arith, common_steps, and_parts, eqb-false, in_store, in_code, not-true, now_held, shape_kept, shaped)
 
 -- Mending a node depends on nothing but the cells that its round wants.
 pub mending_local : MendingIsLocal

@@ -1,4 +1,5 @@
 -- Stores of a code's shape: blank ones, ones that hold a whole stripe, and what can be done with them.
+use Rattle.std.proofs.lemmas.Grind.{common_steps}
 use Rattle.std.proofs.Common.{◌≡◌, ℕ, zero, suc, ◌*◌, ◌<◌, ◌≤◌, false, cond, ◌&&◌, ltb, List, Some, None, Ok, Option, refl, inl, inr, le_refl, mul-le-mul_right, suc-mul, arith}
 use Rattle.std.proofs.lemmas.Bool.{lt-ltb, ltb-true, and_from, and_parts, cases_Bool, cond-true, cond-false, false≢true}
 use Rattle.field.specs.Laws.{Operations}
@@ -45,80 +46,28 @@ whole_cells code x j c = cond (ltb j code.n && ltb c (width code)) (Some (x j c)
 
 pub inside_whole : (code : Code) (x : Symbols) (j c : ℕ) → Inside code j c → whole_cells code x j c ≡ Some (x j c)
 unfolding whole_cells
-inside_whole code x j c inside =
-    cond-true (ltb j code.n && ltb c (width code)) (Some (x j c)) None
-    (and_from (ltb j code.n) (ltb c (width code)) (lt-ltb j code.n inside.0) (lt-ltb c (width code) inside.1))
+inside_whole code x j c inside = grind (arith, common_steps)
 
 pub outside_whole : (code : Code) (x : Symbols) (j c : ℕ) → (Inside code j c → ⊥) → whole_cells code x j c ≡ None
 unfolding whole_cells
-outside_whole code x j c out =
-    elim (cases_Bool (ltb j code.n && ltb c (width code))) [
-      | inl t ↦ let both = and_parts (ltb j code.n) (ltb c (width code)) t in
-          absurd (out (ltb-true j code.n both.0, ltb-true c (width code) both.1))
-      | inr f ↦ cond-false (ltb j code.n && ltb c (width code)) (Some (x j c)) None f
-    ]
+outside_whole code x j c out = grind (arith, common_steps)
 
 module _ (F : Operations) (code : Code) (allowance : ℕ) (enough : code.n * width code ≤ allowance) where
   -- a store of the whole stripe of a file holds the file
   pub whole_holds : (file : List ℕ) → IsFile F code file → (x : Symbols) → StripeOf F code file x
       → HoldsFile F code (store code allowance (whole_cells code x)) (λ j c. false) file
-  whole_holds file I x X = record {
-    is_file = I;
-    stripe = x;
-    is_stripe = X;
-    gone = λ j c lj lc is. absurd (false≢true is);
-    held = λ j c lj lc is. inside_whole code x j c (lj, lc);
-  }
+  whole_holds file I x X = grind (arith, common_steps, false≢true, inside_whole)
 
   -- a file can be laid on a blank store
   pub lays : (file : List ℕ) → IsFile F code file → (x : Symbols) → StripeOf F code file x
       → Lay F code file (store code allowance (λ j c. None)) (Ok (code.n * width code)) (store code allowance (whole_cells code x))
-  lays file I x X = (
-    none,
-    record {
-      returned = refl;
-      kept = same_shape code allowance (λ j c. None) (whole_cells code x) (code.n * width code);
-      stripe = x;
-      is_stripe = X;
-      cells = inside_whole code x;
-      others = outside_whole code x;
-    },
-  )
-    where
-      none : (e : Refusal) → LayHolds F code (store code allowance (λ j c. None)) file e → ⊥
-      none Bounds h = h
-      none Shape h = h (refl, refl)
-      none Length h = h I.long
-      none Work h = h
-      none Outside h = h
-      none Symbol h = omega (arith, I.symbols h.0 h.1, h.2)
-      none (Foreign v c) h = h
-      none (Lost v c) h = h
-      none Contradiction h = h
-      none Ambiguous h = h
-      none Allowance h = omega arith
+  lays file I x X = grind (arith, common_steps, inside_whole, outside_whole, same_shape, whole_cells)
 
   -- there is room for all cells of a node
   pub node_room : width code ≤ allowance
-  node_room =
-      let one : 1 * width code ≤ code.n * width code = mul-le-mul_right (width code) (omega (arith, code.nodes)) in
-      omega arith
+  node_room = grind (arith, common_steps)
 
   -- a node can be lost
   pub loses : (cells : Cells) (v : ℕ) → v < code.n
       → LoseNode code v (store code allowance cells) (Ok (width code)) (store code allowance (without_node code cells v))
-  loses cells v l =
-      (none, record { returned = refl; kept = same_shape code allowance cells (without_node code cells v) (width code); cells = refl })
-    where
-      none : (e : Refusal) → LoseNodeHolds code (store code allowance cells) v e → ⊥
-      none Bounds h = h
-      none Shape h = h (refl, refl)
-      none Length h = h
-      none Work h = h
-      none Outside h = omega arith
-      none Symbol h = h
-      none (Foreign w c) h = h
-      none (Lost w c) h = h
-      none Contradiction h = h
-      none Ambiguous h = h
-      none Allowance h = omega (arith, node_room)
+  loses cells v l = grind (arith, common_steps)

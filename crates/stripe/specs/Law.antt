@@ -53,13 +53,7 @@ SymbolRead code (Some file) row column value = value ≡ slice_index file (row *
 -- 3. An accepted read returned the symbol of the ledger's file at its place.
 abbrev pub ReadsLedger : Code → Ledger → Call → Result ℕ Refusal → Type 0
 ReadsLedger code l (call.Read row column work) (Ok value) = SymbolRead code l.file row column value
-ReadsLedger code l (call.Read row column work) (Err e) = Unit {0}
-ReadsLedger code l (call.Lay file) answer = Unit {0}
-ReadsLedger code l (call.Change row column symbol) answer = Unit {0}
-ReadsLedger code l (call.LoseCell node column) answer = Unit {0}
-ReadsLedger code l (call.LoseNode node) answer = Unit {0}
-ReadsLedger code l (call.MendNode node) answer = Unit {0}
-ReadsLedger code l (call.MendAll work) answer = Unit {0}
+ReadsLedger code l _ _ = Unit {0}
 
 -- a read or a mend all for which 2, 4 and 5 do not hold
 abbrev pub WellFormed : Operations → Code → Meaning → Call → Type 0
@@ -72,11 +66,7 @@ Ambiguity F code m (call.Read row column work) answer =
     WellFormed F code m (call.Read row column work) → (answer ≡ Err Ambiguous) ↔ ReadHolds F code m row column work Ambiguous
 Ambiguity F code m (call.MendAll work) answer =
     WellFormed F code m (call.MendAll work) → (answer ≡ Err Ambiguous) ↔ MendAllHolds F code m work Ambiguous
-Ambiguity F code m (call.Lay file) answer = Unit {0}
-Ambiguity F code m (call.Change row column symbol) answer = Unit {0}
-Ambiguity F code m (call.LoseCell node column) answer = Unit {0}
-Ambiguity F code m (call.LoseNode node) answer = Unit {0}
-Ambiguity F code m (call.MendNode node) answer = Unit {0}
+Ambiguity F code m _ answer = Unit {0}
 
 -- all lost cells lie within these nodes
 abbrev pub LostWithin : Code → Meaning → List ℕ → Type 0

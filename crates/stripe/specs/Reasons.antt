@@ -50,101 +50,64 @@ lost_cells code m = total code.n (λ j. total (width code) (λ c. one_if_lost (m
 
 -- lay
 abbrev pub LayHolds : Operations → Code → Meaning → List ℕ → Refusal → Type 0
-LayHolds F code m file Bounds = ⊥
 LayHolds F code m file Shape = Shaped code m → ⊥
 LayHolds F code m file Length = length file ≡ code.k * code.m → ⊥
-LayHolds F code m file Work = ⊥
-LayHolds F code m file Outside = ⊥
 LayHolds F code m file Symbol = (p : ℕ) × (p < length file) × (F.q ≤ slice_index file p)
-LayHolds F code m file (Foreign v c) = ⊥
-LayHolds F code m file (Lost v c) = ⊥
-LayHolds F code m file Contradiction = ⊥
-LayHolds F code m file Ambiguous = ⊥
 LayHolds F code m file Allowance = m.allowance < code.n * width code
+LayHolds F code m file _ = ⊥
 
 -- read
 abbrev pub ReadHolds : Operations → Code → Meaning → ℕ → ℕ → ℕ → Refusal → Type 0
-ReadHolds F code m j t work Bounds = ⊥
 ReadHolds F code m j t work Shape = Shaped code m → ⊥
-ReadHolds F code m j t work Length = ⊥
 ReadHolds F code m j t work Work = work < front code
 ReadHolds F code m j t work Outside = (j < code.k) × (t < code.m) → ⊥
-ReadHolds F code m j t work Symbol = ⊥
 ReadHolds F code m j t work (Foreign v c) = First (Inside code) (ForeignAt F m.cell) v c
-ReadHolds F code m j t work (Lost v c) = ⊥
 ReadHolds F code m j t work Contradiction = (u : List ℕ) → Fits F code m.cell u → ⊥
 ReadHolds F code m j t work Ambiguous =
     (u v : List ℕ) × Fits F code m.cell u × Fits F code m.cell v
     × (slice_index u (j * code.m + t) ≢ slice_index v (j * code.m + t))
-ReadHolds F code m j t work Allowance = ⊥
+ReadHolds F code m j t work _ = ⊥
 
 -- change
 abbrev pub ChangeHolds : Operations → Code → Meaning → ℕ → ℕ → ℕ → Refusal → Type 0
-ChangeHolds F code m j t s Bounds = ⊥
 ChangeHolds F code m j t s Shape = Shaped code m → ⊥
-ChangeHolds F code m j t s Length = ⊥
-ChangeHolds F code m j t s Work = ⊥
 ChangeHolds F code m j t s Outside = (j < code.k) × (t < code.m) → ⊥
 ChangeHolds F code m j t s Symbol = F.q ≤ s
 ChangeHolds F code m j t s (Foreign v c) = First (Reached code j t) (ForeignAt F m.cell) v c
 ChangeHolds F code m j t s (Lost v c) = (v ≡ j) × (c ≡ t) × LostAt m.cell j t
-ChangeHolds F code m j t s Contradiction = ⊥
-ChangeHolds F code m j t s Ambiguous = ⊥
 ChangeHolds F code m j t s Allowance = m.allowance < present_cells code m j t
+ChangeHolds F code m j t s _ = ⊥
 
 -- lose cell
 abbrev pub LoseCellHolds : Code → Meaning → ℕ → ℕ → Refusal → Type 0
-LoseCellHolds code m j c Bounds = ⊥
 LoseCellHolds code m j c Shape = Shaped code m → ⊥
-LoseCellHolds code m j c Length = ⊥
-LoseCellHolds code m j c Work = ⊥
 LoseCellHolds code m j c Outside = Inside code j c → ⊥
-LoseCellHolds code m j c Symbol = ⊥
-LoseCellHolds code m j c (Foreign v d) = ⊥
-LoseCellHolds code m j c (Lost v d) = ⊥
-LoseCellHolds code m j c Contradiction = ⊥
-LoseCellHolds code m j c Ambiguous = ⊥
 LoseCellHolds code m j c Allowance = m.allowance < 1
+LoseCellHolds code m j c _ = ⊥
 
 -- lose node
 abbrev pub LoseNodeHolds : Code → Meaning → ℕ → Refusal → Type 0
-LoseNodeHolds code m j Bounds = ⊥
 LoseNodeHolds code m j Shape = Shaped code m → ⊥
-LoseNodeHolds code m j Length = ⊥
-LoseNodeHolds code m j Work = ⊥
 LoseNodeHolds code m j Outside = code.n ≤ j
-LoseNodeHolds code m j Symbol = ⊥
-LoseNodeHolds code m j (Foreign v c) = ⊥
-LoseNodeHolds code m j (Lost v c) = ⊥
-LoseNodeHolds code m j Contradiction = ⊥
-LoseNodeHolds code m j Ambiguous = ⊥
 LoseNodeHolds code m j Allowance = m.allowance < width code
+LoseNodeHolds code m j _ = ⊥
 
 -- mend node
 abbrev pub MendNodeHolds : Operations → Code → Meaning → ℕ → Refusal → Type 0
-MendNodeHolds F code m f Bounds = ⊥
 MendNodeHolds F code m f Shape = Shaped code m → ⊥
-MendNodeHolds F code m f Length = ⊥
-MendNodeHolds F code m f Work = ⊥
 MendNodeHolds F code m f Outside = code.n ≤ f
-MendNodeHolds F code m f Symbol = ⊥
 MendNodeHolds F code m f (Foreign v c) = FirstListed (whole code) (wanted code f) (ForeignAt F m.cell) v c
 MendNodeHolds F code m f (Lost v c) = FirstListed (whole code) (wanted code f) (LostAt m.cell) v c
-MendNodeHolds F code m f Contradiction = ⊥
-MendNodeHolds F code m f Ambiguous = ⊥
 MendNodeHolds F code m f Allowance = m.allowance < width code
+MendNodeHolds F code m f _ = ⊥
 
 -- mend all
 abbrev pub MendAllHolds : Operations → Code → Meaning → ℕ → Refusal → Type 0
-MendAllHolds F code m work Bounds = ⊥
 MendAllHolds F code m work Shape = Shaped code m → ⊥
-MendAllHolds F code m work Length = ⊥
 MendAllHolds F code m work Work = work < front code
-MendAllHolds F code m work Outside = ⊥
-MendAllHolds F code m work Symbol = ⊥
 MendAllHolds F code m work (Foreign v c) = First (Inside code) (ForeignAt F m.cell) v c
-MendAllHolds F code m work (Lost v c) = ⊥
 MendAllHolds F code m work Contradiction = (u : List ℕ) → Fits F code m.cell u → ⊥
 MendAllHolds F code m work Ambiguous =
     (u v : List ℕ) × Fits F code m.cell u × Fits F code m.cell v × (u ≢ v)
 MendAllHolds F code m work Allowance = m.allowance < lost_cells code m
+MendAllHolds F code m work _ = ⊥

@@ -40,9 +40,7 @@ struct Brought {
 // The file of the tour: its leg times, and zeros up to the length of a file.
 fn file_of_legs() -> [u16; 32] {
     let mut file = [0; 32];
-    for (i, leg) in LEGS.iter().enumerate() {
-        file[i] = *leg;
-    }
+    file[..STOPS].copy_from_slice(&LEGS);
     file
 }
 
@@ -58,12 +56,9 @@ fn fetch_column(
             return Err(Refusal::Outside);
         }
         asked[node] = true;
-        match round.give(cells[node * COLUMNS + column]) {
-            Ok(given) => match given {
-                Given::Wanting(next) => round = next,
-                Given::Holding(holding) => return Ok(holding),
-            },
-            Err(declined) => return Err(declined.refusal),
+        match round.give(cells[node * COLUMNS + column])? {
+            Given::Wanting(next) => round = next,
+            Given::Holding(holding) => return Ok(holding),
         }
     }
     Err(Refusal::Outside)
@@ -95,22 +90,14 @@ fn run_round(code: &Code, node: usize, cells: &[u16; CELLS]) -> Result<Brought, 
 
 // How many of the nodes were asked.
 fn count(asked: &[bool; NODES]) -> usize {
-    let mut number = 0usize;
-    for one in asked.iter() {
-        if *one {
-            number = number.saturating_add(1);
-        }
-    }
-    number
+    asked.iter().filter(|one| **one).count()
 }
 
 // The table of the cells: nodes down, columns across.
 fn show(rt: &HostRuntime, cells: &[u16; CELLS]) -> io::Result<()> {
     println!(rt; "  node   column 0   column 1   column 2")?;
-    for node in 0..NODES {
-        let first = cells[node * COLUMNS];
-        let second = cells[node * COLUMNS + 1];
-        let coded = cells[node * COLUMNS + 2];
+    for (node, symbols) in cells.chunks_exact(COLUMNS).enumerate() {
+        let (first, second, coded) = (symbols[0], symbols[1], symbols[2]);
         let kind = if node < DATA_NODES { "" } else { "   parity" };
         println!(rt; "  {node:>4}   {first:>8}   {second:>8}   {coded:>8}{kind}")?;
     }
@@ -121,9 +108,7 @@ fn show(rt: &HostRuntime, cells: &[u16; CELLS]) -> io::Result<()> {
 fn symbols_of(cells: &[u16; CELLS], node: usize) -> [u16; COLUMNS] {
     let mut symbols = [0; COLUMNS];
     if node < NODES {
-        for (column, symbol) in symbols.iter_mut().enumerate() {
-            *symbol = cells[node * COLUMNS + column];
-        }
+        symbols.copy_from_slice(&cells[node * COLUMNS..(node + 1) * COLUMNS]);
     }
     symbols
 }
@@ -135,9 +120,7 @@ fn lose_and_rebuild(rt: &HostRuntime, code: &Code, cells: &mut [u16; CELLS]) -> 
         "Node {LOST} is lost. It held {}, {} and {}.",
         held[0], held[1], held[2]
     )?;
-    for column in 0..COLUMNS {
-        cells[LOST * COLUMNS + column] = 0;
-    }
+    cells[LOST * COLUMNS..(LOST + 1) * COLUMNS].fill(0);
     let brought = match run_round(code, LOST, cells) {
         Ok(brought) => brought,
         Err(refusal) => return println!(rt;
@@ -160,7 +143,7 @@ fn lose_and_rebuild(rt: &HostRuntime, code: &Code, cells: &mut [u16; CELLS]) -> 
         "It made {}, {} and {} of them.",
         symbols[0], symbols[1], symbols[2]
     )?;
-    if symbols[0] == held[0] && symbols[1] == held[1] && symbols[2] == held[2] {
+    if symbols == held {
         println!(rt; "These are the three symbols that were lost.")
     } else {
         println!(rt; "These are not the symbols that were lost.")
