@@ -1,5 +1,5 @@
-// A courier's tour of thirty stops, kept on eighteen machines: it is laid as a stripe, one machine is lost, and a
-// round rebuilds what that machine held from its neighbours.
+// A courier's tour of thirty stops, kept on eighteen machines: it is laid as a stripe, one machine is
+// lost, and a round rebuilds what that machine held from its neighbours.
 #![tactic(auto)]
 
 use code::{Code, Refusal};
@@ -16,9 +16,11 @@ const DATA_NODES: usize = 16;
 
 const DATA_COLUMNS: usize = 2;
 
-const COLUMNS: usize = 3;
+const COLUMNS: usize = DATA_COLUMNS + 1;
 
-const CELLS: usize = 54;
+const SYMBOLS: usize = DATA_NODES * DATA_COLUMNS;
+
+const CELLS: usize = NODES * COLUMNS;
 
 const LOST: usize = 7;
 
@@ -28,8 +30,8 @@ const LEGS: [u16; STOPS] = [
     41, 5, 20, 11,
 ];
 
-// What a round brought back: the symbols of the node's columns, how many symbols it was given, and which nodes they
-// came from.
+// What a round brought back: the symbols of the node's columns, how many symbols it was given, and which
+// nodes they came from.
 #[derive(Drop)]
 struct Brought {
     symbols: [u16; COLUMNS],
@@ -38,8 +40,8 @@ struct Brought {
 }
 
 // The file of the tour: its leg times, and zeros up to the length of a file.
-fn file_of_legs() -> [u16; 32] {
-    let mut file = [0; 32];
+fn file_of_legs() -> [u16; SYMBOLS] {
+    let mut file = [0; SYMBOLS];
     file[..STOPS].copy_from_slice(&LEGS);
     file
 }
@@ -88,11 +90,6 @@ fn run_round(code: &Code, node: usize, cells: &[u16; CELLS]) -> Result<Brought, 
     Err(Refusal::Outside)
 }
 
-// How many of the nodes were asked.
-fn count(asked: &[bool; NODES]) -> usize {
-    asked.iter().filter(|one| **one).count()
-}
-
 // The table of the cells: nodes down, columns across.
 fn show(rt: &HostRuntime, cells: &[u16; CELLS]) -> io::Result<()> {
     println!(rt; "  node   column 0   column 1   column 2")?;
@@ -104,52 +101,41 @@ fn show(rt: &HostRuntime, cells: &[u16; CELLS]) -> io::Result<()> {
     Ok(())
 }
 
-// The symbols of one node.
-fn symbols_of(cells: &[u16; CELLS], node: usize) -> [u16; COLUMNS] {
-    let mut symbols = [0; COLUMNS];
-    if node < NODES {
-        symbols.copy_from_slice(&cells[node * COLUMNS..(node + 1) * COLUMNS]);
-    }
-    symbols
+// Says that something was declined, and why.
+fn declined(rt: &HostRuntime, what: &str, refusal: Refusal) -> io::Result<()> {
+    println!(rt; "The {what} was declined with number {}.", refusal.number())
 }
 
 // What the program says of the node that it takes away and rebuilds.
 fn lose_and_rebuild(rt: &HostRuntime, code: &Code, cells: &mut [u16; CELLS]) -> io::Result<()> {
-    let held = symbols_of(cells, LOST);
-    println!(rt;
-        "Node {LOST} is lost. It held {}, {} and {}.",
-        held[0], held[1], held[2]
-    )?;
-    cells[LOST * COLUMNS..(LOST + 1) * COLUMNS].fill(0);
+    let mut held = [0; COLUMNS];
+    let lost = &mut cells[LOST * COLUMNS..(LOST + 1) * COLUMNS];
+    held.copy_from_slice(lost);
+    lost.fill(0);
+    let [first, second, coded] = held;
+    println!(rt; "Node {LOST} is lost. It held {first}, {second} and {coded}.")?;
     let brought = match run_round(code, LOST, cells) {
         Ok(brought) => brought,
-        Err(refusal) => return println!(rt;
-            "The round was declined with number {}.",
-            refusal.number()
-        ),
+        Err(refusal) => return declined(rt, "round", refusal),
     };
-    let number = count(&brought.asked);
     println!(rt;
-        "A round for node {LOST} took {} symbols from {number} other nodes:",
-        brought.given
+        "A round for node {LOST} took {} symbols from {} other nodes:",
+        brought.given,
+        brought.asked.iter().filter(|one| **one).count()
     )?;
-    for (node, one) in brought.asked.iter().enumerate() {
-        if *one {
-            println!(rt; "  node {node}")?;
-        }
+    for (node, _) in brought.asked.iter().enumerate().filter(|(_, one)| **one) {
+        println!(rt; "  node {node}")?;
     }
-    let symbols = brought.symbols;
-    println!(rt;
-        "It made {}, {} and {} of them.",
-        symbols[0], symbols[1], symbols[2]
-    )?;
-    if symbols == held {
+    let [first, second, coded] = brought.symbols;
+    println!(rt; "It made {first}, {second} and {coded} of them.")?;
+    if brought.symbols == held {
         println!(rt; "These are the three symbols that were lost.")
     } else {
         println!(rt; "These are not the symbols that were lost.")
     }
 }
 
+// What the program says of the stripe of the tour.
 fn tell(rt: &HostRuntime, code: &Code) -> io::Result<()> {
     println!(rt;
         "A tour of {STOPS} stops has {STOPS} leg times, in minutes. They are laid over {NODES} nodes."
@@ -164,7 +150,7 @@ fn tell(rt: &HostRuntime, code: &Code) -> io::Result<()> {
     println!(rt; "counted round, where a sum of two bytes is their exclusive or.")?;
     let mut cells = [0; CELLS];
     if let Err(refusal) = encode::<Bytes>(code, &file_of_legs(), &mut cells) {
-        return println!(rt; "The tour was declined with number {}.", refusal.number());
+        return declined(rt, "tour", refusal);
     }
     println!(rt; "")?;
     show(rt, &cells)?;
@@ -172,7 +158,7 @@ fn tell(rt: &HostRuntime, code: &Code) -> io::Result<()> {
     match keeps_rules::<Bytes>(code, &cells) {
         Ok(true) => println!(rt; "The {CELLS} cells keep the column rule and the group rule.")?,
         Ok(false) => println!(rt; "The cells break a rule.")?,
-        Err(refusal) => println!(rt; "The check was declined with number {}.", refusal.number())?,
+        Err(refusal) => declined(rt, "check", refusal)?,
     }
     lose_and_rebuild(rt, code, &mut cells)
 }
@@ -180,6 +166,6 @@ fn tell(rt: &HostRuntime, code: &Code) -> io::Result<()> {
 fn main(rt: HostRuntime) -> io::Result<()> {
     match Code::new(NODES, DATA_NODES, DATA_COLUMNS, 1) {
         Ok(code) => tell(&rt, &code),
-        Err(refusal) => println!(rt; "The code was declined with number {}.", refusal.number()),
+        Err(refusal) => declined(&rt, "code", refusal),
     }
 }
