@@ -46,7 +46,8 @@ abbrev pub zeros : List ℕ
 zeros = 0 ∷ 0 ∷ 0 ∷ 0 ∷ 0 ∷ 0 ∷ []
 
 -- m has the code's shape and holds the stripe of the file, but for the cells of the lost nodes
-pub record HoldsWithout (F : Operations) (code : Code) (file : List ℕ) (lost : List ℕ) (m : Meaning) : Type 0 where
+pub record HoldsWithout (F : Operations) (code : Code) (file : List ℕ) (lost : List ℕ)
+    (m : Meaning) : Type 0 where
   pub shaped : Shaped code m
   pub stripe : Symbols
   pub is_stripe : StripeOf F code file stripe

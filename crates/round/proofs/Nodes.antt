@@ -1,16 +1,17 @@
 -- Which nodes a round asks, and how many.
 use Rattle.std.proofs.lemmas.Grind.{common_steps}
-use Rattle.std.proofs.Common.{◌≡◌, ℕ, ◌+◌, ◌-◌, ◌*◌, ◌/◌, ◌%◌, ◌<◌, ◌≤◌, cond, ltb, List, map, length, get_or, sym, refl, ap, ◌∙◌, subst, inl, inr, zero-add, arith}
+use Rattle.std.proofs.Common.{◌≡◌, ℕ, zero, suc, ◌+◌, ◌-◌, ◌*◌, ◌/◌, ◌%◌, ◌<◌, ◌≤◌, cond, ltb, List, map, length, get_or, sym, refl, ap, ◌∙◌, subst, inl, inr, zero-add, arith}
 use native.Mathlib.Nat.{add-mod_right}
 use Rattle.std.specs.List.{range_with_len}
 use Rattle.std.proofs.lemmas.List.FromFn.{get_or-map-range_with_len, length-map-range_with_len}
-use Rattle.std.proofs.lemmas.Bool.{cases_lt, lt-ltb, le-ltb}
+use Rattle.std.proofs.lemmas.Bool.{cases_lt, cases_eq, lt-ltb, le-ltb}
+use Rattle.algebra.specs.Vandermonde.{Listed, Distinct}
 use Rattle.code.specs.declared.record.Code.{Code}
 use Rattle.code.specs.Positions.{ahead, behind}
 use Rattle.code.specs.Stripe.{width}
 use Rattle.code.proofs.CountedRound.{ahead_cases, behind_cases, behind_small}
 use Rattle.round.specs.Wanted.{wanted, without}
-use Rattle.round.specs.Round.{Asks, Near, Different, In, nodes_asked}
+use Rattle.round.specs.Round.{Asks, Near, nodes_asked}
 use Rattle.round.proofs.Places.{without_le, first_cell, coded_cell}
 use Rattle.round.proofs.Fetches.{below_whole}
 use Rattle.round.proofs.Apart.{Kinds, kinds, counted, without_apart}
@@ -22,6 +23,29 @@ behind_wraps n f s v h e = let d : f + n - s ≡ v = omega arith in behind_small
 -- ⟨f + s + n⟩ = ⟨f + s⟩
 ahead_wraps : (n f s v : ℕ) → v ≡ f + s + n → ahead n f s ≡ v % n
 ahead_wraps n f s v e = sym (add-mod_right (f + s) n) ∙ ap (λ x. x % n) (sym e)
+
+-- the values of g at the numbers from k on, n of them: what is listed there
+listed_from : (g : ℕ → ℕ) (k n i : ℕ) → k ≤ i → i < k + n → Listed (g i) (map g (range_with_len k n))
+listed_from g k zero i a b = absurd (omega arith)
+listed_from g k (suc n) i a b =
+    elim (cases_eq i k) [ inl e ↦ inl (ap g e) | inr d ↦ inr (listed_from g (k + 1) n i (omega arith) (omega arith)) ]
+
+listed_at : (g : ℕ → ℕ) (k n v : ℕ) → Listed v (map g (range_with_len k n)) → (i : ℕ) × (k ≤ i) × (i < k + n) × (g i ≡ v)
+listed_at g k zero v l = elim l [ ]
+listed_at g k (suc n) v (inl e) = (k, omega arith, omega arith, sym e)
+listed_at g k (suc n) v (inr l) = let i = listed_at g (k + 1) n v l in (i.0, omega arith, omega arith, i.3)
+
+-- where all of them differ, none stands there twice
+distinct_from : (g : ℕ → ℕ) (k n : ℕ)
+    → ((i j : ℕ) → k ≤ i → i < k + n → k ≤ j → j < k + n → g i ≡ g j → i ≡ j) → Distinct (map g (range_with_len k n))
+distinct_from g k zero apart = tt
+distinct_from g k (suc n) apart = (
+  (λ l.
+      let i = listed_at g (k + 1) n (g k) l in
+      let e = apart i.0 k (omega arith) (omega arith) (omega arith) (omega arith) i.3 in
+      omega arith),
+  distinct_from g (k + 1) n (λ i j a b a' b' e. apart i j (omega arith) (omega arith) (omega arith) (omega arith) e),
+)
 
 module _ (code : Code) (f : ℕ) (known : f < code.n) where
   near_at : (c s v : ℕ) → c < width code → s < code.m → (wanted code f (c * code.m + s)).0 ≡ v → Kinds code f c s → Near code f v
@@ -140,18 +164,17 @@ module _ (code : Code) (f : ℕ) (known : f < code.n) where
             )
       ]
 
-  pub asked_nodes : (vs : List ℕ) × Different vs × (length vs ≡ nodes_asked code)
-      × ((v : ℕ) → (In v vs → Asks code f v) × (Asks code f v → In v vs))
+  pub asked_nodes : (vs : List ℕ) × Distinct vs × (length vs ≡ nodes_asked code)
+      × ((v : ℕ) → (Listed v vs → Asks code f v) × (Asks code f v → Listed v vs))
   unfolding many
-  asked_nodes =
-      let vs : List ℕ = map node_at (range_with_len 0 many) in
-      let long : length vs ≡ many = length-map-range_with_len node_at 0 many in
-      let at : (i : ℕ) → i < many → get_or vs i 0 ≡ node_at i = λ i h. get_or-map-range_with_len node_at 0 many i i 0 h (zero-add i) in (
-        vs,
-        (λ i j hi hj e. nodes_apart i j (rw (← long) hi) (rw (← long) hj) (sym (at i (rw (← long) hi)) ∙ e ∙ at j (rw (← long) hj))),
-        long,
-        λ v. (
-          (λ (i, h, e). near_asks v (subst (Near code f) (sym (at i (rw (← long) h)) ∙ e) (node_near i (rw (← long) h)))),
-          (λ a. let d = near_node v (asks_near v a) in (d.0, rw long d.1, at d.0 d.1 ∙ d.2)),
-        ),
-      )
+  asked_nodes = (
+    map node_at (range_with_len 0 many),
+    distinct_from node_at 0 many (λ i j a b a' b' e. nodes_apart i j (omega arith) (omega arith) e),
+    length-map-range_with_len node_at 0 many,
+    λ v. (
+      (λ l. let i = listed_at node_at 0 many v l in near_asks v (subst (Near code f) i.3 (node_near i.0 (omega arith)))),
+      (λ a.
+          let d = near_node v (asks_near v a) in
+          subst (λ x. Listed x (map node_at (range_with_len 0 many))) d.2 (listed_from node_at 0 many d.0 (omega arith) (omega arith))),
+    ),
+  )

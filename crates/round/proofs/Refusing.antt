@@ -16,18 +16,7 @@ module _ (F : Operations) (code : Code) (f : ℕ) (cells out : List ℕ)
     (long : code.n * width code ≤ length cells) (room : width code ≤ length out) (known : f < code.n) where
   -- with arrays long enough and a node of the code, only an unfit symbol is left
   unfit_or_none : (e : Refusal) → Refused F code f cells out e → e ≡ Symbol
-  unfit_or_none Bounds r = absurd r
-  unfit_or_none Shape (inl r) = absurd (omega arith)
-  unfit_or_none Shape (inr r) = absurd (omega arith)
-  unfit_or_none Length r = absurd r
-  unfit_or_none Work r = absurd r
-  unfit_or_none Outside r = absurd (omega arith)
-  unfit_or_none Symbol r = refl
-  unfit_or_none (Foreign node column) r = absurd r
-  unfit_or_none (Lost node column) r = absurd r
-  unfit_or_none Contradiction r = absurd r
-  unfit_or_none Ambiguous r = absurd r
-  unfit_or_none Allowance r = absurd r
+  unfit_or_none e r = grind (arith, common_steps)
 
   pub unfit_refused : (e : Refusal) → e ≡ Symbol → Unfit F code f cells → Rebuilds F code f cells out out (Err e)
   unfit_refused e is u = grind (arith, common_steps)

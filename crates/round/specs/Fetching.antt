@@ -26,7 +26,8 @@ Unfit F code f cells = (p : ℕ) × (p < whole code) × (F.q ≤ asked code f ce
 
 -- The rest of a column: its finished symbol, or a wanted cell that has no symbol of the field.
 abbrev pub Fills : {X : Type 0} → Operations → Code → ℕ → List ℕ → ℕ → Result (Holding X) Refusal → Type 0
-Fills F code f cells column (Ok h) = (h.column ≡ column) × Holds F code f (fetched code f cells (given_holding h)) h
+Fills F code f cells column (Ok h) =
+    (h.column ≡ column) × Holds F code f (fetched code f cells (given_holding h)) h
 Fills F code f cells column (Err e) = (e ≡ Symbol) × Unfit F code f cells
 
 -- what the round makes in column c of the array's symbols

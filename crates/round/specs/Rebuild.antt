@@ -1,10 +1,11 @@
 -- A whole round over an array of symbols.
-use Rattle.std.specs.Prelude.{◌≡◌, ℕ, ◌+◌, ◌*◌, ◌<◌, ◌≤◌, ◌⊎◌, List, ◌++◌, map, length, drop, Ok, Err, Result, slice_index}
+use Rattle.std.specs.Prelude.{◌≡◌, ℕ, ◌+◌, ◌*◌, ◌<◌, ◌≤◌, ◌⊎◌, List, ◌++◌, map, length, drop}
+use Rattle.std.specs.Prelude.{Ok, Err, Result, slice_index}
 use Rattle.std.specs.List.{range_with_len}
 use Rattle.field.specs.Laws.{Operations}
 use Rattle.code.specs.declared.record.Code.{Code}
 use Rattle.code.specs.declared.refusal.Refusal.{Refusal}
-use Rattle.code.specs.declared.refusal.Refusal.TheVariants.{Bounds, Shape, Length, Work, Outside, Symbol, Foreign, Lost, Contradiction, Ambiguous, Allowance}
+use Rattle.code.specs.declared.refusal.Refusal.TheVariants.{Shape, Outside, Symbol}
 use Rattle.code.specs.Refusals.{number}
 use Rattle.code.specs.Stripe.{StripeOf, Symbols, width}
 use Rattle.round.specs.Wanted.{wanted, whole, rebuilt}
@@ -19,22 +20,16 @@ asked code f cells p = at_cell code cells (wanted code f p)
 
 -- the symbols of node f, column by column, as the group rule makes them of the wanted cells
 abbrev pub mended : Operations → Code → ℕ → List ℕ → List ℕ
-mended F code f cells = map (λ c. rebuilt F code c (λ s. asked code f cells (c * code.m + s))) (range_with_len 0 (width code))
+mended F code f cells =
+    map (λ c. rebuilt F code c (λ s. asked code f cells (c * code.m + s))) (range_with_len 0 (width code))
 
 -- When a refusal holds: 2 where one of the arrays is too short, 5 where the node is outside, 6 where a
 -- wanted cell has no symbol of the field. The others never do.
 abbrev pub Refused : Operations → Code → ℕ → List ℕ → List ℕ → Refusal → Type 0
-Refused F code f cells out Bounds = ⊥
 Refused F code f cells out Shape = (length cells < code.n * width code) ⊎ (length out < width code)
-Refused F code f cells out Length = ⊥
-Refused F code f cells out Work = ⊥
 Refused F code f cells out Outside = code.n ≤ f
 Refused F code f cells out Symbol = (p : ℕ) × (p < whole code) × (F.q ≤ asked code f cells p)
-Refused F code f cells out (Foreign node column) = ⊥
-Refused F code f cells out (Lost node column) = ⊥
-Refused F code f cells out Contradiction = ⊥
-Refused F code f cells out Ambiguous = ⊥
-Refused F code f cells out Allowance = ⊥
+Refused F code f cells out _ = ⊥
 
 -- Rebuilding node f from the cells into the array out, which becomes out'. Accepted, no refusal holds, the
 -- round was given m·(m + a) symbols, the front of the array has the node's symbols, and the

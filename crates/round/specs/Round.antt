@@ -1,6 +1,7 @@
 -- What every round does: the cells and the nodes that it asks, and the symbols that it makes of a stripe.
 use Rattle.std.specs.Prelude.{◌≡◌, ℕ, ◌+◌, ◌-◌, ◌*◌, ◌<◌, ◌≤◌, min, ◌⊎◌, List, length, slice_index}
 use Rattle.field.specs.Laws.{Operations, Laws}
+use Rattle.algebra.specs.Vandermonde.{Listed, Distinct}
 use Rattle.code.specs.declared.record.Code.{Code}
 use Rattle.code.specs.Positions.{ahead, behind}
 use Rattle.code.specs.Stripe.{StripeOf, Symbols, width}
@@ -16,14 +17,6 @@ Near code f v =
     ((s : ℕ) × (1 ≤ s) × (s ≤ code.m) × (v ≡ ahead code.n f s))
     ⊎ ((s : ℕ) × (1 ≤ s) × (s < width code) × (v ≡ behind code.n f s))
 
--- no number stands twice in the list
-abbrev pub Different : List ℕ → Type 0
-Different vs = (i j : ℕ) → i < length vs → j < length vs → slice_index vs i ≡ slice_index vs j → i ≡ j
-
--- v stands in the list
-abbrev pub In : ℕ → List ℕ → Type 0
-In v vs = (i : ℕ) × (i < length vs) × (slice_index vs i ≡ v)
-
 -- how many nodes a round asks: min(2m + a − 1, n − 1)
 abbrev pub nodes_asked : Code → ℕ
 nodes_asked code = min (2 * code.m + code.a - 1) (code.n - 1)
@@ -33,14 +26,15 @@ pub record RoundOf (code : Code) (f : ℕ) : Type 0 where
   -- each wanted cell is one of the code's
   pub inside : (p : ℕ) → p < whole code → ((wanted code f p).0 < code.n) × ((wanted code f p).1 < width code)
   -- the m·(m + a) wanted cells are all different
-  pub cells_differ : (p p' : ℕ) → p < whole code → p' < whole code → wanted code f p ≡ wanted code f p' → p ≡ p'
+  pub cells_differ : (p p' : ℕ) → p < whole code → p' < whole code
+      → wanted code f p ≡ wanted code f p' → p ≡ p'
   -- the nodes asked are the m nodes ahead of f and the m + a − 1 nodes behind it
   pub near : (v : ℕ) → (Asks code f v → Near code f v) × (Near code f v → Asks code f v)
   -- none of them is f
   pub others : Asks code f f → ⊥
   -- there are min(2m + a − 1, n − 1) of them
-  pub nodes : (vs : List ℕ) × Different vs × (length vs ≡ nodes_asked code)
-      × ((v : ℕ) → (In v vs → Asks code f v) × (Asks code f v → In v vs))
+  pub nodes : (vs : List ℕ) × Distinct vs × (length vs ≡ nodes_asked code)
+      × ((v : ℕ) → (Listed v vs → Asks code f v) × (Asks code f v → Listed v vs))
   -- in every field, of every stripe it makes the stripe's symbols of f
   pub mends : (F : Operations) → Laws F → (file : List ℕ) (x : Symbols) → StripeOf F code file x
       → (c : ℕ) → c < width code

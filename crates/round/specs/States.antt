@@ -1,5 +1,6 @@
 -- What each state of a round stands for, and what giving and taking answer.
-use Rattle.std.specs.Prelude.{◌≡◌, ℕ, ◌+◌, ◌-◌, ◌*◌, ◌<◌, ◌≤◌, List, [], ◌∷◌, ◌++◌, length, Ok, Err, Result, slice_index}
+use Rattle.std.specs.Prelude.{◌≡◌, ℕ, ◌+◌, ◌-◌, ◌*◌, ◌<◌, ◌≤◌, List, [], ◌∷◌, ◌++◌, length}
+use Rattle.std.specs.Prelude.{Ok, Err, Result, slice_index}
 use Rattle.field.specs.Laws.{Operations}
 use Rattle.code.specs.declared.record.Code.{Code}
 use Rattle.code.specs.declared.refusal.Refusal.{Refusal}
@@ -34,7 +35,8 @@ abbrev pub AllSymbols : Operations → List ℕ → Type 0
 AllSymbols F symbols = (p : ℕ) → p < length symbols → slice_index symbols p < F.q
 
 -- w is the round for node f of the code that was given these symbols and wants another.
-pub record Wants {X : Type 0} (F : Operations) (code : Code) (f : ℕ) (symbols : List ℕ) (w : Wanting X) : Type 0 where
+pub record Wants {X : Type 0} (F : Operations) (code : Code) (f : ℕ) (symbols : List ℕ)
+    (w : Wanting X) : Type 0 where
   pub code_is : w.code ≡ code
   pub node_is : w.node ≡ f
   pub count : given_wanting w ≡ length symbols
@@ -43,7 +45,8 @@ pub record Wants {X : Type 0} (F : Operations) (code : Code) (f : ℕ) (symbols 
   pub factor : w.weight ≡ α_power F ((w.column - code.m) * w.place)
 
 -- h is the round for node f of the code that was given these symbols and has finished one of its own.
-pub record Holds {X : Type 0} (F : Operations) (code : Code) (f : ℕ) (symbols : List ℕ) (h : Holding X) : Type 0 where
+pub record Holds {X : Type 0} (F : Operations) (code : Code) (f : ℕ) (symbols : List ℕ)
+    (h : Holding X) : Type 0 where
   pub code_is : h.code ≡ code
   pub node_is : h.node ≡ f
   pub count : given_holding h ≡ length symbols
@@ -51,7 +54,8 @@ pub record Holds {X : Type 0} (F : Operations) (code : Code) (f : ℕ) (symbols 
   pub finished : h.made ≡ rebuilt F code h.column (of_column code symbols h.column)
 
 -- o is the round for node f of the code that was given these symbols, m·(m + a) of them, and is over.
-pub record Ends {X : Type 0} (F : Operations) (code : Code) (f : ℕ) (symbols : List ℕ) (o : Over X) : Type 0 where
+pub record Ends {X : Type 0} (F : Operations) (code : Code) (f : ℕ) (symbols : List ℕ)
+    (o : Over X) : Type 0 where
   pub code_is : o.code ≡ code
   pub node_is : o.node ≡ f
   pub count : length symbols ≡ whole code
@@ -71,7 +75,8 @@ pub record GoesOn {X : Type 0} (F : Operations) (w : Wanting X) (v : ℕ) (w' : 
   pub node_kept : w'.node ≡ w.node
   pub column_kept : w'.column ≡ w.column
   pub counted : given_wanting w' ≡ given_wanting w + 1
-  pub given_too : (code : Code) (f : ℕ) (symbols : List ℕ) → Wants F code f symbols w → Wants F code f (symbols ++ v ∷ []) w'
+  pub given_too : (code : Code) (f : ℕ) (symbols : List ℕ)
+      → Wants F code f symbols w → Wants F code f (symbols ++ v ∷ []) w'
 
 -- Giving v made the Wanting round w the Holding round h: v is a symbol of the field and the last one for the
 -- column, and h was given v after all that w was given.
@@ -82,7 +87,8 @@ pub record Finishes {X : Type 0} (F : Operations) (w : Wanting X) (v : ℕ) (h :
   pub node_kept : h.node ≡ w.node
   pub column_kept : h.column ≡ w.column
   pub counted : given_holding h ≡ given_wanting w + 1
-  pub given_too : (code : Code) (f : ℕ) (symbols : List ℕ) → Wants F code f symbols w → Holds F code f (symbols ++ v ∷ []) h
+  pub given_too : (code : Code) (f : ℕ) (symbols : List ℕ)
+      → Wants F code f symbols w → Holds F code f (symbols ++ v ∷ []) h
 
 -- v was declined: it is no symbol of the field, the refusal is 6, and the round is as it was.
 pub record Declines {X : Type 0} (F : Operations) (w : Wanting X) (v : ℕ) (d : Declined X) : Type 0 where
@@ -96,7 +102,8 @@ Gives F w v (Ok (given.Wanting w')) = GoesOn F w v w'
 Gives F w v (Ok (given.Holding h)) = Finishes F w v h
 Gives F w v (Err d) = Declines F w v d
 
--- Taking v from the Holding round h made it the Wanting round w, for the next column. Nothing is given by taking.
+-- Taking v from the Holding round h made it the Wanting round w, for the next column. Nothing is given by
+-- taking.
 pub record NextColumn {X : Type 0} (F : Operations) (h : Holding X) (v : ℕ) (w : Wanting X) : Type 0 where
   pub symbol : v ≡ h.made
   pub more : h.column + 1 < width h.code
@@ -104,7 +111,8 @@ pub record NextColumn {X : Type 0} (F : Operations) (h : Holding X) (v : ℕ) (w
   pub node_kept : w.node ≡ h.node
   pub column : w.column ≡ h.column + 1
   pub counted : given_wanting w ≡ given_holding h
-  pub given_same : (code : Code) (f : ℕ) (symbols : List ℕ) → Holds F code f symbols h → Wants F code f symbols w
+  pub given_same : (code : Code) (f : ℕ) (symbols : List ℕ)
+      → Holds F code f symbols h → Wants F code f symbols w
 
 -- Taking v from the Holding round h, whose column is the last, ended it.
 pub record LastColumn {X : Type 0} (F : Operations) (h : Holding X) (v : ℕ) (o : Over X) : Type 0 where
@@ -113,7 +121,8 @@ pub record LastColumn {X : Type 0} (F : Operations) (h : Holding X) (v : ℕ) (o
   pub code_kept : o.code ≡ h.code
   pub node_kept : o.node ≡ h.node
   pub counted : given_over o ≡ given_holding h
-  pub given_same : (code : Code) (f : ℕ) (symbols : List ℕ) → Holds F code f symbols h → Ends F code f symbols o
+  pub given_same : (code : Code) (f : ℕ) (symbols : List ℕ)
+      → Holds F code f symbols h → Ends F code f symbols o
 
 -- what taking answers: the symbol, and what the round became
 abbrev pub Takes : {X : Type 0} → Operations → Holding X → ℕ × Taken X → Type 0

@@ -1,5 +1,6 @@
 -- Any list of calls on a stripe, and the law of it.
-use Rattle.std.specs.Prelude.{◌≡◌, ℕ, ◌+◌, ◌-◌, ◌*◌, ◌<◌, ◌≤◌, max, ◌↔◌, List, [], ◌∷◌, length, Some, None, Ok, Err, Option, Result, ◌≢◌, slice_index}
+use Rattle.std.specs.Prelude.{◌≡◌, ℕ, ◌+◌, ◌-◌, ◌*◌, ◌<◌, ◌≤◌, max, ◌↔◌, List, [], ◌∷◌, length, Some, None}
+use Rattle.std.specs.Prelude.{Ok, Err, Option, Result, ◌≢◌, slice_index}
 use Rattle.field.specs.Laws.{Operations, Laws}
 use Rattle.algebra.specs.Vandermonde.{Listed}
 use Rattle.code.specs.declared.record.Code.{Code}
@@ -13,7 +14,8 @@ use Rattle.store.specs.Meaning.{Meaning, Blank}
 use Rattle.stripe.specs.declared.calls.Call.{Call}
 use Rattle.stripe.specs.declared.calls.Call.TheVariants as call
 use Rattle.code.specs.Held.{Inside}
-use Rattle.stripe.specs.Reasons.{LayHolds, ReadHolds, ChangeHolds, LoseCellHolds, LoseNodeHolds, MendNodeHolds, MendAllHolds}
+use Rattle.stripe.specs.Reasons.{LayHolds, ReadHolds, ChangeHolds, LoseCellHolds, LoseNodeHolds}
+use Rattle.stripe.specs.Reasons.{MendNodeHolds, MendAllHolds}
 use Rattle.stripe.specs.Calls.{Lay, Read, Change, LoseCell, LoseNode, MendNode, MendAll}
 use Rattle.stripe.specs.Ledger.{Ledger, empty, told, Mirrors}
 
@@ -41,9 +43,9 @@ Step F code m (call.MendAll work) answer m' = MendAll F code work m answer m'
 -- a list of calls with their answers: a chain of steps
 abbrev pub Run : Operations → Code → Meaning → List Call → List (Result ℕ Refusal) → Meaning → Type 0
 Run F code m [] [] m' = m' ≡ m
-Run F code m [] (answer ∷ answers) m' = ⊥
-Run F code m (c ∷ calls) [] m' = ⊥
-Run F code m (c ∷ calls) (answer ∷ answers) m' = (mid : Meaning) × Step F code m c answer mid × Run F code mid calls answers m'
+Run F code m (c ∷ calls) (answer ∷ answers) m' =
+    (mid : Meaning) × Step F code m c answer mid × Run F code mid calls answers m'
+Run F code m _ _ m' = ⊥
 
 -- an accepted read returned this symbol of the ledger's file
 abbrev pub SymbolRead : Code → Option (List ℕ) → ℕ → ℕ → ℕ → Type 0
@@ -57,15 +59,18 @@ ReadsLedger code l _ _ = Unit {0}
 
 -- a read or a mend all for which 2, 4 and 5 do not hold
 abbrev pub WellFormed : Operations → Code → Meaning → Call → Type 0
-WellFormed F code m c = (Holds F code m c Shape → ⊥) × (Holds F code m c Work → ⊥) × (Holds F code m c Outside → ⊥)
+WellFormed F code m c =
+    (Holds F code m c Shape → ⊥) × (Holds F code m c Work → ⊥) × (Holds F code m c Outside → ⊥)
 
 -- 4. A well-formed read was called ambiguous exactly if two files that fit the cells before it differ at its
 -- place, and a well-formed mend all exactly if two different files fit them.
 abbrev pub Ambiguity : Operations → Code → Meaning → Call → Result ℕ Refusal → Type 0
 Ambiguity F code m (call.Read row column work) answer =
-    WellFormed F code m (call.Read row column work) → (answer ≡ Err Ambiguous) ↔ ReadHolds F code m row column work Ambiguous
+    WellFormed F code m (call.Read row column work)
+    → (answer ≡ Err Ambiguous) ↔ ReadHolds F code m row column work Ambiguous
 Ambiguity F code m (call.MendAll work) answer =
-    WellFormed F code m (call.MendAll work) → (answer ≡ Err Ambiguous) ↔ MendAllHolds F code m work Ambiguous
+    WellFormed F code m (call.MendAll work)
+    → (answer ≡ Err Ambiguous) ↔ MendAllHolds F code m work Ambiguous
 Ambiguity F code m _ answer = Unit {0}
 
 -- all lost cells lie within these nodes
@@ -81,13 +86,11 @@ EnoughLeft code m answer =
 
 -- a read, a change or a mending was not accepted
 abbrev pub NotAccepted : Call → Result ℕ Refusal → Type 0
-NotAccepted (call.Lay file) answer = Unit {0}
 NotAccepted (call.Read row column work) answer = (value : ℕ) → answer ≢ Ok value
 NotAccepted (call.Change row column symbol) answer = (value : ℕ) → answer ≢ Ok value
-NotAccepted (call.LoseCell node column) answer = Unit {0}
-NotAccepted (call.LoseNode node) answer = Unit {0}
 NotAccepted (call.MendNode node) answer = (value : ℕ) → answer ≢ Ok value
 NotAccepted (call.MendAll work) answer = (value : ℕ) → answer ≢ Ok value
+NotAccepted _ answer = Unit {0}
 
 -- What is promised of one call of a list: l is the ledger before it, m and m' are what the store means before
 -- and after it.
@@ -104,13 +107,13 @@ pub record Promised (F : Operations) (code : Code) (l : Ledger) (m : Meaning) (c
   pub nothing_laid : l.file ≡ None → NotAccepted c answer
 
 -- each call of a chain keeps what is promised of it
-abbrev pub Throughout : Operations → Code → Ledger → Meaning → List Call → List (Result ℕ Refusal) → Meaning → Type 0
+abbrev pub Throughout : Operations → Code → Ledger → Meaning
+    → List Call → List (Result ℕ Refusal) → Meaning → Type 0
 Throughout F code l m [] [] m' = m' ≡ m
-Throughout F code l m [] (answer ∷ answers) m' = ⊥
-Throughout F code l m (c ∷ calls) [] m' = ⊥
 Throughout F code l m (c ∷ calls) (answer ∷ answers) m' =
     (mid : Meaning) × Step F code m c answer mid × Promised F code l m c answer mid
     × Throughout F code (told code l c answer) mid calls answers m'
+Throughout F code l m _ _ m' = ⊥
 
 -- Two stores that hold the same in the cells that a round for node f wants get the same symbols in node f.
 abbrev pub MendingIsLocal : Type 0
@@ -126,6 +129,7 @@ MendingIsLocal =
 -- nodes may not be lost.
 abbrev pub LawOfCalls : Type 0
 LawOfCalls =
-    ((F : Operations) → Laws F → (code : Code) (m m' : Meaning) (calls : List Call) (answers : List (Result ℕ Refusal))
+    ((F : Operations) → Laws F
+    → (code : Code) (m m' : Meaning) (calls : List Call) (answers : List (Result ℕ Refusal))
     → Blank m → Run F code m calls answers m' → Throughout F code empty m calls answers m')
     × NoMoreNodes

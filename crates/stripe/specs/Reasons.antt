@@ -1,10 +1,12 @@
 -- When each refusal of each call holds. Every condition speaks of what the store means before the call and
 -- of the call's arguments; a refusal that a call does not have never holds.
-use Rattle.std.specs.Prelude.{◌≡◌, ℕ, zero, suc, ◌+◌, ◌*◌, ◌<◌, ◌≤◌, List, length, Some, None, Option, ◌≢◌, slice_index}
+use Rattle.std.specs.Prelude.{◌≡◌, ℕ, zero, suc, ◌+◌, ◌*◌, ◌<◌, ◌≤◌, List, length, Some, None, Option, ◌≢◌}
+use Rattle.std.specs.Prelude.{slice_index}
 use Rattle.field.specs.Laws.{Operations}
 use Rattle.code.specs.declared.record.Code.{Code}
 use Rattle.code.specs.declared.refusal.Refusal.{Refusal}
-use Rattle.code.specs.declared.refusal.Refusal.TheVariants.{Bounds, Shape, Length, Work, Outside, Symbol, Foreign, Lost, Contradiction, Ambiguous, Allowance}
+use Rattle.code.specs.declared.refusal.Refusal.TheVariants.{Shape, Length, Work, Outside, Symbol, Foreign}
+use Rattle.code.specs.declared.refusal.Refusal.TheVariants.{Lost, Contradiction, Ambiguous, Allowance}
 use Rattle.code.specs.Work.{front}
 use Rattle.code.specs.Held.{Inside, ForeignAt, LostAt, First}
 use Rattle.code.specs.Stripe.{Fits, parity, width}
@@ -42,7 +44,8 @@ one_if_lost (Some v) = 0
 -- how many of the (r + 1)·(a + 1) cells of a change at (j, t) are present
 abbrev pub present_cells : Code → Meaning → ℕ → ℕ → ℕ
 present_cells code m j t =
-    total (parity code + 1) (λ e. total (code.a + 1) (λ i. one_if_present (m.cell (changed code j t e i).0 (changed code j t e i).1)))
+    total (parity code + 1)
+    (λ e. total (code.a + 1) (λ i. one_if_present (m.cell (changed code j t e i).0 (changed code j t e i).1)))
 
 -- how many cells of the code are lost
 abbrev pub lost_cells : Code → Meaning → ℕ
