@@ -7,7 +7,7 @@ use Rattle.code.specs.Stripe.{width}
 use Rattle.code.proofs.CountedRound.{mod_same}
 use Rattle.code.proofs.Places.{place_parts}
 use Rattle.round.specs.Wanted.{wanted, without, whole}
-use Rattle.round.proofs.Places.{without_before, without_after, without_le, wanted_first, wanted_other, wanted_coded}
+use Rattle.round.proofs.Places.{without_le, wanted_first, wanted_other, wanted_coded}
 
 -- column and place of a count
 pub counted : (code : Code) (p : ℕ) → p < whole code

@@ -1,16 +1,14 @@
 -- A round whose symbols come from an array, one symbol after the other.
 use Rattle.std.proofs.lemmas.Grind.{common_steps}
-use Rattle.std.proofs.Common.{◌≡◌, ℕ, ◌+◌, ◌*◌, ◌<◌, ◌≤◌, List, [], ◌∷◌, ◌++◌, length, get_or, set, Ok, sym, ap, ◌∙◌, subst, inl, inr, mod-lt, mul-le-mul_left, zero-add, arith, length-set}
+use Rattle.std.proofs.Common.{◌≡◌, ℕ, ◌+◌, ◌*◌, ◌<◌, ◌≤◌, List, [], ◌∷◌, ◌++◌, length, get_or, set, Ok, sym, ap, ◌∙◌, subst, zero-add, arith, length-set}
 use lib.Arith.{digits_lt}
 use Rattle.std.proofs.lemmas.List.FromFn.{map-range_with_len_more, get_or-map-range_with_len, length-map-range_with_len}
-use Rattle.std.proofs.lemmas.List.Edits.{fill_by_more}
-use Rattle.std.proofs.lemmas.Bool.{lt-ltb, le-ltb, eq-eqb, ne_eqb, cases_lt, cases_eq}
 use Rattle.field.specs.Laws.{Operations}
 use Rattle.code.specs.declared.record.Code.{Code}
 use Rattle.code.specs.Stripe.{width}
 use Rattle.round.specs.Wanted.{wanted, wanted_for, whole}
 use Rattle.round.specs.States.{Wants, Holds, Gives, Takes, AllSymbols, given_wanting, given_holding, given_over}
-use Rattle.round.specs.Rebuild.{asked, at_cell}
+use Rattle.round.specs.Rebuild.{asked}
 use Rattle.round.specs.Fetching.{fetched, Fetching, Unfit, Fills, Runs, made_in}
 use Rattle.round.specs.declared.state.Wanting.{Wanting}
 use Rattle.round.specs.declared.state.Holding.{Holding}
@@ -20,7 +18,7 @@ use Rattle.round.specs.declared.state.Taken.TheVariants as taken
 use Rattle.round.specs.declared.state.Given.{Given}
 use Rattle.round.specs.declared.state.Given.TheVariants as goal
 use Rattle.round.proofs.Making.{made_same}
-use Rattle.round.proofs.Places.{wanted_at, without_le}
+use Rattle.round.proofs.Places.{wanted_at}
 
 -- one symbol more
 pub fetched_more : (code : Code) (f : ℕ) (cells : List ℕ) (p : ℕ)

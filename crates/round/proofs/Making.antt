@@ -1,7 +1,7 @@
 -- What the symbols given for a column make, one symbol after the other.
 use Rattle.std.proofs.lemmas.Grind.{common_steps}
-use Rattle.std.proofs.Common.{◌≡◌, ℕ, zero, suc, ◌+◌, ◌-◌, ◌*◌, ◌<◌, ◌≤◌, List, length, sym, ap, ◌∙◌, inl, inr, add-one, arith}
-use Rattle.std.proofs.lemmas.Bool.{lt-ltb, le-ltb, cases_lt}
+use Rattle.std.proofs.Common.{◌≡◌, ℕ, zero, suc, ◌+◌, ◌-◌, ◌*◌, ◌<◌, ◌≤◌, List, length, sym, ap, ◌∙◌, add-one, arith}
+use Rattle.std.proofs.lemmas.Bool.{lt-ltb, le-ltb}
 use Rattle.field.specs.Laws.{Operations, Laws}
 use Rattle.algebra.specs.Sums.{sum}
 use Rattle.algebra.proofs.Numbers.{power-times-zero, sub-zero, sub-sub, one-mul, sum_one, sum_next, sum_same}

@@ -1,12 +1,12 @@
 -- Which refusals a rebuilding has, and what it writes.
 use Rattle.std.proofs.lemmas.Grind.{common_steps}
-use Rattle.std.proofs.Common.{◌≡◌, ℕ, ◌*◌, ◌<◌, ◌≤◌, List, length, get_or, take, Err, Result, sym, refl, ◌∙◌, subst, inl, inr, arith, lit≤}
+use Rattle.std.proofs.Common.{◌≡◌, ℕ, ◌*◌, ◌<◌, ◌≤◌, List, length, get_or, take, Err, Result, ◌∙◌, arith}
 use Rattle.std.proofs.lemmas.List.FromFn.{fill_by_all}
 use Rattle.std.proofs.lemmas.List.{length-take-le, get_or-take}
 use Rattle.field.specs.Laws.{Operations}
 use Rattle.code.specs.declared.record.Code.{Code}
 use Rattle.code.specs.declared.refusal.Refusal.{Refusal}
-use Rattle.code.specs.declared.refusal.Refusal.TheVariants.{Bounds, Shape, Length, Work, Outside, Symbol, Foreign, Lost, Contradiction, Ambiguous, Allowance}
+use Rattle.code.specs.declared.refusal.Refusal.TheVariants.{Symbol}
 use Rattle.code.specs.Stripe.{width}
 use Rattle.round.specs.Wanted.{whole}
 use Rattle.round.specs.Rebuild.{asked, mended, Refused, Rebuilds}

@@ -6,7 +6,7 @@ use Rattle.std.proofs.lemmas.List.{get_or_push, get_or_append_left, length_push}
 use Rattle.field.specs.Laws.{Operations, Laws}
 use Rattle.field.specs.Powers.{multiplies, power-add}
 use Rattle.code.specs.declared.record.Code.{Code}
-use Rattle.round.specs.Wanted.{made, rebuilt, α_power}
+use Rattle.round.specs.Wanted.{made, α_power}
 use Rattle.round.specs.States.{Wants, Holds, of_column, AllSymbols}
 use Rattle.round.specs.declared.state.Wanting.{Wanting}
 use Rattle.round.specs.declared.state.Holding.{Holding}

@@ -1,5 +1,5 @@
 -- What every round does: the cells and the nodes that it asks, and the symbols that it makes of a stripe.
-use Rattle.std.specs.Prelude.{◌≡◌, ℕ, ◌+◌, ◌-◌, ◌*◌, ◌<◌, ◌≤◌, min, ◌⊎◌, List, length, slice_index}
+use Rattle.std.specs.Prelude.{◌≡◌, ℕ, ◌+◌, ◌-◌, ◌*◌, ◌<◌, ◌≤◌, min, ◌⊎◌, List, length}
 use Rattle.field.specs.Laws.{Operations, Laws}
 use Rattle.algebra.specs.Vandermonde.{Listed, Distinct}
 use Rattle.code.specs.declared.record.Code.{Code}

@@ -1,7 +1,7 @@
 // Rebuilding the cells of one node from cells of other nodes, symbol by symbol.
 #![tactic(auto)]
 
-ghost use Rattle.std.specs.Prelude.{◌≡◌, ℕ, ◌+◌, ◌<◌, ◌≤◌};
+ghost use Rattle.std.specs.Prelude.{◌≡◌, ◌<◌, ◌≤◌};
 ghost use Rattle.round.specs.Wanted.{wanted};
 ghost use Rattle.round.specs.Round.{nodes_asked, EveryRound};
 ghost use Rattle.round.specs.States.{given_wanting, given_holding, given_over, Begun, Gives, Takes};

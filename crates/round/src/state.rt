@@ -1,6 +1,9 @@
 // The three states of a round, each a type of its own that moves: a state that was used is gone, and
 // only the state that it became can be used next. The field belongs to the type, so that one
 // field serves a whole round. No state is Clone: a copy could be used twice.
+//
+// Each state has the code, the node and the field as its own: one struct that holds the three would save
+// two lines a state, and every clause that speaks of a round's code would name that struct as well.
 ghost use Rattle.std.specs.Prelude.{◌≡◌, ◌+◌, ◌<◌};
 
 use code::{Code, Refusal};
@@ -45,6 +48,9 @@ pub struct Over<F> {
     pub(crate) node: usize,
     pub(crate) field: PhantomData<F>,
 }
+
+// Neither this nor Taken is a Result or a ControlFlow: no case is an error or an end, and each variant
+// has the name of the state that follows.
 
 /// What a round becomes that was given a symbol.
 #[derive(Drop)]

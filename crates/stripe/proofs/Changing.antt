@@ -1,7 +1,7 @@
 -- Changing one symbol: afterwards the store holds the changed file.
 use Rattle.std.proofs.lemmas.Grind.{common_steps}
-use Rattle.std.proofs.Common.{◌≡◌, ℕ, ◌+◌, ◌*◌, ◌<◌, Bool, List, length, get_or, set, Some, None, sym, ap, ◌∙◌, arith}
-use native.Mathlib.Decide.{dec_lt, ℕ_discrete}
+use Rattle.std.proofs.Common.{◌≡◌, ℕ, ◌+◌, ◌*◌, ◌<◌, Bool, List, get_or, set, Some, None, sym, ap, ◌∙◌, arith}
+use native.Mathlib.Decide.{dec_lt}
 use Rattle.std.specs.Option.{option_map}
 use Rattle.std.proofs.lemmas.List.{length-set, get_or-set_same, get_or-set_other}
 use Rattle.field.specs.Laws.{Operations, Laws}

@@ -1,7 +1,6 @@
 -- Which files fit a store that holds what the ledger says.
 use Rattle.std.proofs.lemmas.Grind.{common_steps}
 use Rattle.std.proofs.Common.{◌≡◌, ℕ, ◌+◌, ◌-◌, ◌*◌, ◌<◌, ◌≤◌, max, Bool, List, length, get_or, Some, None, Option, sym, ◌∙◌, inl, inr, mul-le-mul, arith}
-use Rattle.std.proofs.lemmas.Bool.{cases_Bool}
 use Rattle.field.specs.Laws.{Operations, Laws}
 use Rattle.code.specs.declared.record.Code.{Code}
 use Rattle.code.specs.Stripe.{IsFile, Fits, parity}

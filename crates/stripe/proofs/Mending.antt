@@ -1,8 +1,8 @@
 -- Mending one node by a round.
 use Rattle.std.proofs.lemmas.Grind.{common_steps}
-use Rattle.std.proofs.Common.{◌≡◌, ℕ, ◌+◌, ◌*◌, ◌<◌, ◌≤◌, Bool, false, not, ◌&&◌, eqb, ◌⊎◌, List, Some, None, unwrap_or, sym, refl, ap, ◌∙◌, subst, inl, inr, mul-le-mul, arith}
+use Rattle.std.proofs.Common.{◌≡◌, ℕ, ◌+◌, ◌*◌, ◌<◌, Bool, false, not, ◌&&◌, eqb, ◌⊎◌, List, Some, None, unwrap_or, sym, refl, ap, ◌∙◌, subst, inl, inr, arith}
 use native.Mathlib.Decide.{dec_lt}
-use Rattle.std.proofs.lemmas.Bool.{cases_eq, and_parts, and_cases, not-true, not-false, eqb-true, eqb-false}
+use Rattle.std.proofs.lemmas.Bool.{and_parts, and_cases, not-true, not-false, eqb-true, eqb-false}
 use Rattle.field.specs.Laws.{Operations, Laws}
 use Rattle.code.specs.declared.record.Code.{Code}
 use Rattle.code.specs.declared.refusal.Refusal.{Refusal}
@@ -18,8 +18,8 @@ use Rattle.stripe.specs.Reasons.{Shaped, MendNodeHolds}
 use Rattle.stripe.specs.Calls.{NodeMended, read_for}
 use Rattle.stripe.specs.Ledger.{HoldsFile, HoldsNone}
 use Rattle.stripe.specs.Law.{MendingIsLocal}
-use Rattle.stripe.proofs.Decisions.{decided, decide_lost, lost_or_held, none_listed}
-use Rattle.stripe.proofs.Fitting.{in_store, in_code, held_agrees}
+use Rattle.stripe.proofs.Decisions.{decided, decide_lost, none_listed}
+use Rattle.stripe.proofs.Fitting.{in_store, in_code}
 use Rattle.stripe.proofs.Laying.{shape_kept}
 use Rattle.stripe.proofs.Reading.{has_shape}
 

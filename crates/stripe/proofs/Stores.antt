@@ -1,15 +1,13 @@
 -- Stores of a code's shape: blank ones, ones that hold a whole stripe, and what can be done with them.
 use Rattle.std.proofs.lemmas.Grind.{common_steps}
-use Rattle.std.proofs.Common.{◌≡◌, ℕ, zero, suc, ◌*◌, ◌<◌, ◌≤◌, false, cond, ◌&&◌, ltb, List, Some, None, Ok, Option, refl, inl, inr, le_refl, mul-le-mul_right, suc-mul, arith}
-use Rattle.std.proofs.lemmas.Bool.{lt-ltb, ltb-true, and_from, and_parts, cases_Bool, cond-true, cond-false, false≢true}
+use Rattle.std.proofs.Common.{◌≡◌, ℕ, zero, suc, ◌*◌, ◌<◌, ◌≤◌, false, cond, ◌&&◌, ltb, List, Some, None, Ok, Option, refl, le_refl, suc-mul, arith}
+use Rattle.std.proofs.lemmas.Bool.{false≢true}
 use Rattle.field.specs.Laws.{Operations}
 use Rattle.code.specs.declared.record.Code.{Code}
-use Rattle.code.specs.declared.refusal.Refusal.{Refusal}
-use Rattle.code.specs.declared.refusal.Refusal.TheVariants.{Bounds, Shape, Length, Work, Outside, Symbol, Foreign, Lost, Contradiction, Ambiguous, Allowance}
 use Rattle.code.specs.Stripe.{Symbols, IsFile, StripeOf, width}
 use Rattle.store.specs.Meaning.{Meaning, Cells}
 use Rattle.code.specs.Held.{Inside}
-use Rattle.stripe.specs.Reasons.{total, one_if_lost, lost_cells, LayHolds, LoseNodeHolds}
+use Rattle.stripe.specs.Reasons.{total, one_if_lost, lost_cells}
 use Rattle.stripe.specs.Calls.{Kept, Lay, LoseNode, without_node}
 use Rattle.stripe.specs.Ledger.{HoldsFile}
 use Rattle.stripe.specs.Survival.{BlankStores}

@@ -15,8 +15,8 @@ use Rattle.code.specs.Work.{front}
 use Rattle.stripe.specs.Reasons.{Shaped, lost_cells, ReadHolds, MendAllHolds}
 use Rattle.stripe.specs.Calls.{Read, MendAll, without_node}
 use Rattle.stripe.specs.Ledger.{HoldsFile}
-use Rattle.stripe.specs.Law.{Run, LostWithin}
-use Rattle.stripe.specs.Survival.{Wide, losing, each_lost, Survived, Survival}
+use Rattle.stripe.specs.Law.{Wide, Run, LostWithin}
+use Rattle.stripe.specs.Survival.{losing, each_lost, Survived, Survival}
 use Rattle.stripe.proofs.Fitting.{lost_held, held_agrees, one_fits}
 use Rattle.stripe.proofs.Reading.{read_lower, mend_lower}
 use Rattle.stripe.proofs.Stores.{store, same_shape, lost_most, whole_cells, inside_whole, outside_whole, whole_holds, lays, loses}

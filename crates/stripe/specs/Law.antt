@@ -77,12 +77,16 @@ Ambiguity F code m _ answer = Unit {0}
 abbrev pub LostWithin : Code → Meaning → List ℕ → Type 0
 LostWithin code m nodes = (j c : ℕ) → Inside code j c → m.cell j c ≡ None → Listed j nodes
 
+-- The stripe survives the loss of any r + a nodes: n > (r + a)·max(m, a − 1).
+abbrev pub Wide : Code → Type 0
+Wide code = (parity code + code.a) * max code.m (code.a - 1) < code.n
+
 -- 5. If n > (r + a)·max(m, a − 1), no read and no mend all was called ambiguous while all lost cells lay
 -- within r + a nodes.
 abbrev pub EnoughLeft : Code → Meaning → Result ℕ Refusal → Type 0
 EnoughLeft code m answer =
-    (nodes : List ℕ) → (parity code + code.a) * max code.m (code.a - 1) < code.n
-    → length nodes ≤ parity code + code.a → LostWithin code m nodes → answer ≢ Err Ambiguous
+    (nodes : List ℕ) → Wide code → length nodes ≤ parity code + code.a → LostWithin code m nodes
+    → answer ≢ Err Ambiguous
 
 -- a read, a change or a mending was not accepted
 abbrev pub NotAccepted : Call → Result ℕ Refusal → Type 0

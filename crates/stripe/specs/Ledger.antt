@@ -1,6 +1,6 @@
 -- The ledger: what can be written down by somebody who hears of every call, with its arguments and
 -- whether it was accepted, and who never looks into the store.
-use Rattle.std.specs.Prelude.{◌≡◌, ℕ, ◌+◌, ◌*◌, ◌<◌, Bool, true, false, not, ◌&&◌, ◌||◌, List, [], ◌∷◌, Some}
+use Rattle.std.specs.Prelude.{◌≡◌, ℕ, ◌+◌, ◌*◌, ◌<◌, Bool, true, false, not, ◌&&◌, ◌||◌, List, ◌∷◌, Some}
 use Rattle.std.specs.Prelude.{None, Ok, Err, Option, Result, ◌==◌, slice_set}
 use Rattle.std.specs.Option.{option_map}
 use Rattle.field.specs.Laws.{Operations}

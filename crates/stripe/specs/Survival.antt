@@ -1,6 +1,6 @@
 -- That there are runs of which the law speaks: on a store of the code's shape a file is laid, cells are lost
 -- and mended, and symbols are read and changed, each call accepted.
-use Rattle.std.specs.Prelude.{◌≡◌, ℕ, ◌+◌, ◌-◌, ◌*◌, ◌<◌, ◌≤◌, max, false, List, [], ◌∷◌, length, Ok, Result}
+use Rattle.std.specs.Prelude.{◌≡◌, ℕ, ◌+◌, ◌*◌, ◌<◌, ◌≤◌, false, List, [], ◌∷◌, length, Ok, Result}
 use Rattle.std.specs.Prelude.{slice_index, slice_set}
 use Rattle.std.specs.Borrow.{Bor}
 use Rattle.field.specs.Laws.{Operations, Laws}
@@ -15,11 +15,7 @@ use Rattle.stripe.specs.declared.calls.Call.TheVariants as call
 use Rattle.code.specs.Work.{front}
 use Rattle.stripe.specs.Reasons.{Shaped}
 use Rattle.stripe.specs.Ledger.{HoldsFile}
-use Rattle.stripe.specs.Law.{Run}
-
--- The stripe survives the loss of any r + a nodes: n > (r + a)·max(m, a − 1).
-abbrev pub Wide : Code → Type 0
-Wide code = (parity code + code.a) * max code.m (code.a - 1) < code.n
+use Rattle.stripe.specs.Law.{Wide, Run}
 
 -- a code with these four numbers that survives the loss of any r + a nodes, and for which k > a
 pub record WideCode (n k m a : ℕ) (code : Code) : Type 0 where
