@@ -82,6 +82,12 @@ pub now_holds : {X : Type 0} (F : Operations) (L : Laws F) (code : Code) (f : �
     → Holds F code f (symbols ++ v ∷ []) h
 now_holds F L code f symbols w v h was below hc hn hcol full joins = grind (arith, common_steps, joined_is, length_push, symbols_more)
 
+-- the factor of the next symbol
+factor_more : (F : Operations) → Laws F → (d s : ℕ) → F.mul (α_power F (d * s)) (α_power F d) ≡ α_power F (d * (s + 1))
+factor_more F L d s =
+    let e : d * s + d ≡ d * (s + 1) = omega arith in
+    sym (power-add F (multiplies F L) F.α (d * s) d L.generator_below) ∙ ap (α_power F) e
+
 -- the symbol given was not the last one for its column
 pub still_wants : {X : Type 0} (F : Operations) (L : Laws F) (code : Code) (f : ℕ) (symbols : List ℕ) (w : Wanting X) (v : ℕ) (w' : Wanting X)
     → Wants F code f symbols w → v < F.q
@@ -90,21 +96,5 @@ pub still_wants : {X : Type 0} (F : Operations) (L : Laws F) (code : Code) (f : 
     → Joins F w.code w.column w.place w.made w.weight v w'.made
     → Wants F code f (symbols ++ v ∷ []) w'
 still_wants F L code f symbols w v w' was below hc hn hcol one_more hw joins =
-    let m : w.code.m ≡ code.m = ap (λ (x : Code). x.m) was.code_is in
-    let m' : w'.code.m ≡ code.m = ap (λ (x : Code). x.m) (hc ∙ was.code_is) in
-    let count : w.column * code.m + w.place ≡ length symbols = rw (← m) was.count in
-    let y = joined_is F L code symbols w.column w.place w.made w.weight v w'.made count was.accepted below was.so_far was.factor
-    (subst (λ (x : Code). Joins F x w.column w.place w.made w.weight v w'.made) was.code_is joins) in
-    let all : ℕ → ℕ → ℕ = of_column code (symbols ++ v ∷ []) in
-    let d = w.column - code.m in
-    let exponent : d * w.place + d ≡ d * (w.place + 1) = omega arith in
-    record {
-      code_is = hc ∙ was.code_is;
-      node_is = hn ∙ was.node_is;
-      count = rw (hcol, m', one_more, length_push) (omega arith);
-      accepted = symbols_more F symbols v was.accepted below;
-      so_far = λ _. y ∙ ap (λ k. made F code w.column k (all w.column)) (sym one_more) ∙ ap (λ k. made F code k w'.place (all k)) (sym hcol);
-      factor = hw ∙ ap (λ x. F.mul x (α_power F (w.column - w.code.m))) was.factor
-          ∙ ap (λ k. F.mul (α_power F (d * w.place)) (α_power F (w.column - k))) m
-          ∙ sym (power-add F (multiplies F L) F.α (d * w.place) d L.generator_below) ∙ ap (α_power F) exponent ∙ ap (λ k. α_power F (d * k)) (sym one_more) ∙ ap (λ k. α_power F ((k - code.m) * w'.place)) (sym hcol);
-    }
+    let factor = factor_more F L (w.column - code.m) w.place in
+    grind (arith, common_steps, joined_is, length_push, symbols_more)
