@@ -9,6 +9,9 @@ use Rattle.store.specs.Meaning.{Meaning}
 use Rattle.code.specs.Held.{Inside}
 use Rattle.stripe.specs.Reasons.{Shaped}
 
+-- Two codes. Each one's bounds are shown by computing with its own numbers; a definition over every n would
+-- have to prove them of every n.
+
 -- n 5, k 4, m 2, a 1
 abbrev pub five : Code
 five = record {

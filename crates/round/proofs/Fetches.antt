@@ -53,7 +53,7 @@ module _ {X : Type 0} (F : Operations) (code : Code) (f : ℕ) (cells : List ℕ
   -- it stands in the array
   pub cell_inside : code.n * width code ≤ length cells → cell.0 * columns + cell.1 < length cells
   cell_inside long =
-      let i = rw (← cell_is) at (inside_at w.code w.node w.column w.place w.inside.1) in
+      let i = rw (← cell_is) at (inside_at w.code w.node w.column w.place w.unfinished) in
       let j = subst (λ (x : Code). (cell.0 < x.n) × (cell.1 < width x)) was.code_is i in
       cell_below cell.0 cell.1 code.n columns _ j.0 (rw columns_are j.1) (rw columns_are long)
 
@@ -93,7 +93,7 @@ module _ {X : Type 0} (F : Operations) (code : Code) (f : ℕ) (cells : List ℕ
     fetches_none above = (
       given_wanting w,
       subst (λ (x : Code). given_wanting w < whole x) was.code_is
-          (below_whole w.code w.column w.place w.inside.0 w.inside.1),
+          (below_whole w.code w.column w.place w.inside w.unfinished),
       rw v_is at above,
     )
 

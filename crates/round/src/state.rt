@@ -25,7 +25,8 @@ pub struct Wanting<F> {
     pub(crate) weight: u16,
     pub(crate) field: PhantomData<F>,
     ghost known: { node < code.n },
-    ghost inside: { (column < code.m + code.a) × (place < code.m) },
+    ghost inside: { column < code.m + code.a },
+    ghost unfinished: { place < code.m },
 }
 
 /// A round that has finished the symbol of a column, which is to be taken.

@@ -1,7 +1,8 @@
 -- What follows from any answer, whatever the call.
+use Rattle.std.proofs.lemmas.Grind.{common_steps}
 use Rattle.std.proofs.Common.{◌≡◌, ℕ, ◌<◌, ◌≤◌, ◌↔◌, None, Ok, Err, Result, sym, refl, ap, subst, arith}
 use Rattle.code.specs.declared.refusal.Refusal.{Refusal}
-use Rattle.code.specs.declared.refusal.Refusal.TheVariants.{Bounds, Shape, Length, Work, Outside, Symbol, Foreign, Lost, Contradiction, Ambiguous, Allowance}
+use Rattle.code.specs.declared.refusal.Refusal.TheVariants.{Ambiguous}
 use Rattle.code.specs.Refusals.{Least, number}
 use Rattle.store.specs.Meaning.{Meaning}
 use Rattle.stripe.specs.Calls.{Answers}
@@ -24,17 +25,7 @@ module _ (Holds : Refusal → Type 0) (Done : ℕ → Meaning → Type 0) (m m' 
 
   -- the only refusal with the number 10
   numbered_ten : (e : Refusal) → number e ≡ 10 → e ≡ Ambiguous
-  numbered_ten Bounds h = absurd (omega arith)
-  numbered_ten Shape h = absurd (omega arith)
-  numbered_ten Length h = absurd (omega arith)
-  numbered_ten Work h = absurd (omega arith)
-  numbered_ten Outside h = absurd (omega arith)
-  numbered_ten Symbol h = absurd (omega arith)
-  numbered_ten (Foreign v c) h = absurd (omega arith)
-  numbered_ten (Lost v c) h = absurd (omega arith)
-  numbered_ten Contradiction h = absurd (omega arith)
-  numbered_ten Ambiguous h = refl
-  numbered_ten Allowance h = absurd (omega arith)
+  numbered_ten e h = grind (arith, common_steps)
 
   -- where no refusal with a smaller number holds, a call is called ambiguous exactly if it is
   pub ambiguous_iff : ((e : Refusal) → number e < 10 → Holds e → ⊥) → (answer : Result ℕ Refusal)

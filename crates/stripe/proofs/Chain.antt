@@ -1,6 +1,6 @@
 -- The law: each call of a list keeps what is promised of it.
 use Rattle.std.proofs.lemmas.Grind.{common_steps}
-use Rattle.std.proofs.Common.{◌≡◌, ℕ, ◌+◌, ◌*◌, Bool, List, [], ◌∷◌, get_or, Some, None, Ok, Err, Option, Result, sym, refl, ap, subst, arith}
+use Rattle.std.proofs.Common.{◌≡◌, ℕ, ◌+◌, ◌*◌, Bool, List, ◌∷◌, get_or, Some, None, Ok, Err, Option, Result, sym, refl, ap, subst, arith}
 use Rattle.field.specs.Laws.{Operations, Laws}
 use Rattle.code.specs.declared.record.Code.{Code}
 use Rattle.code.specs.declared.refusal.Refusal.{Refusal}
@@ -44,13 +44,7 @@ module _ (F : Operations) (L : Laws F) (code : Code) where
   -- every step is an answer by the call's refusals and its effect
   as_answer : (m : Meaning) (c : Call) (answer : Result ℕ Refusal) (m' : Meaning) → Step F code m c answer m'
       → Answers (Holds F code m c) (Done m c) m answer m'
-  as_answer m (call.Lay file) answer m' A = A
-  as_answer m (call.Read row column work) answer m' A = A
-  as_answer m (call.Change row column symbol) answer m' A = A
-  as_answer m (call.LoseCell node column) answer m' A = A
-  as_answer m (call.LoseNode node) answer m' A = A
-  as_answer m (call.MendNode node) answer m' A = A
-  as_answer m (call.MendAll work) answer m' A = A
+  as_answer m c answer m' S = grind (arith, common_steps)
 
   -- After an accepted call the store holds what the ledger then says.
   entered_mirrors : (file : Option (List ℕ)) (lost : ℕ → ℕ → Bool) (m : Meaning) (c : Call) (value : ℕ) (m' : Meaning)
@@ -84,42 +78,28 @@ module _ (F : Operations) (L : Laws F) (code : Code) where
   -- An accepted read returned the symbol of the ledger's file.
   reads_ledger : (l : Ledger) (m : Meaning) (c : Call) (answer : Result ℕ Refusal) (m' : Meaning) → Mirrors F code l m
       → Answers (Holds F code m c) (Done m c) m answer m' → ReadsLedger code l c answer
-  reads_ledger l m (call.Lay file) answer m' H A = tt
   reads_ledger l m (call.Read row column work) (Ok value) m' H A =
       reads_symbol F L code m l.lost l.file H row column work value m' A.0 A.1
-  reads_ledger l m (call.Read row column work) (Err e) m' H A = tt
-  reads_ledger l m (call.Change row column symbol) answer m' H A = tt
-  reads_ledger l m (call.LoseCell node column) answer m' H A = tt
-  reads_ledger l m (call.LoseNode node) answer m' H A = tt
-  reads_ledger l m (call.MendNode node) answer m' H A = tt
-  reads_ledger l m (call.MendAll work) answer m' H A = tt
+  reads_ledger l m _ answer m' H A = tt
 
   -- A well-formed read or mend all was called ambiguous exactly if it is.
   ambiguity : (l : Ledger) (m : Meaning) (c : Call) (answer : Result ℕ Refusal) (m' : Meaning) → Mirrors F code l m
       → Answers (Holds F code m c) (Done m c) m answer m' → Ambiguity F code m c answer
-  ambiguity l m (call.Lay file) answer m' H A = tt
   ambiguity l m (call.Read row column work) answer m' H A = λ well.
       ambiguous_iff (ReadHolds F code m row column work) (Told F code row column m) m m'
       (read_lower F L code m l.lost l.file H row column work well.0 well.1 well.2) answer A
-  ambiguity l m (call.Change row column symbol) answer m' H A = tt
-  ambiguity l m (call.LoseCell node column) answer m' H A = tt
-  ambiguity l m (call.LoseNode node) answer m' H A = tt
-  ambiguity l m (call.MendNode node) answer m' H A = tt
   ambiguity l m (call.MendAll work) answer m' H A = λ well.
       ambiguous_iff (MendAllHolds F code m work) (AllMended F code m) m m'
       (mend_lower F L code m l.lost l.file H work well.0 well.1) answer A
+  ambiguity l m _ answer m' H A = tt
 
   -- if any two fitting files are equal, no call is ambiguous
   one_file : (m : Meaning) (c : Call)
       → ((u v : List ℕ) → Fits F code m.cell u → Fits F code m.cell v → u ≡ v) → Holds F code m c Ambiguous → ⊥
-  one_file m (call.Lay file) one h = h
   one_file m (call.Read row column work) one h =
       h.4 (ap (λ u. get_or u (row * code.m + column) 0) (one h.0 h.1 h.2 h.3))
-  one_file m (call.Change row column symbol) one h = h
-  one_file m (call.LoseCell node column) one h = h
-  one_file m (call.LoseNode node) one h = h
-  one_file m (call.MendNode node) one h = h
   one_file m (call.MendAll work) one h = h.4 (one h.0 h.1 h.2 h.3)
+  one_file m _ one h = h
 
   -- While all lost cells lie within r + a nodes, no call is ambiguous.
   enough_left : (m : Meaning) (c : Call) (answer : Result ℕ Refusal) (m' : Meaning)
@@ -131,25 +111,17 @@ module _ (F : Operations) (L : Laws F) (code : Code) where
   -- Where the ledger has no file, reads, changes and mendings are declined ..
   not_without : (lost : ℕ → ℕ → Bool) (m : Meaning) (c : Call) (value : ℕ) (m' : Meaning) → HoldsNone m lost
       → ((e : Refusal) → Holds F code m c e → ⊥) → Done m c value m' → NotAccepted c (Ok value)
-  not_without lost m (call.Lay file) value m' H none D = tt
   not_without lost m (call.Read row column work) value m' H none D =
       absurd (reads_symbol F L code m lost None H row column work value m' none D)
   not_without lost m (call.Change row column symbol) value m' H none D =
       absurd (nothing_to_change F code m lost H row column symbol value m' none D)
-  not_without lost m (call.LoseCell node column) value m' H none D = tt
-  not_without lost m (call.LoseNode node) value m' H none D = tt
   not_without lost m (call.MendNode node) value m' H none D = absurd (nothing_to_rebuild F code m lost H node none)
   not_without lost m (call.MendAll work) value m' H none D = absurd (nothing_to_mend F L code m lost H work value m' none D)
+  not_without lost m _ value m' H none D = tt
 
   -- a declined call was not accepted
   not_declined : (c : Call) (e : Refusal) → NotAccepted c (Err e)
-  not_declined (call.Lay file) e = tt
-  not_declined (call.Read row column work) e = declined e
-  not_declined (call.Change row column symbol) e = declined e
-  not_declined (call.LoseCell node column) e = tt
-  not_declined (call.LoseNode node) e = tt
-  not_declined (call.MendNode node) e = declined e
-  not_declined (call.MendAll work) e = declined e
+  not_declined c e = grind (arith, common_steps, declined)
 
   -- .. so none of them was accepted.
   nothing_laid : (file : Option (List ℕ)) (lost : ℕ → ℕ → Bool) (m : Meaning) (c : Call) (answer : Result ℕ Refusal) (m' : Meaning)
@@ -176,12 +148,10 @@ module _ (F : Operations) (L : Laws F) (code : Code) where
   -- and so does each step of a list of calls
   pub throughout : (l : Ledger) (m : Meaning) (calls : List Call) (answers : List (Result ℕ Refusal)) (m' : Meaning)
       → Mirrors F code l m → Run F code m calls answers m' → Throughout F code l m calls answers m'
-  throughout l m [] [] m' H R = R
-  throughout l m [] (answer ∷ answers) m' H R = R
-  throughout l m (c ∷ calls) [] m' H R = R
   throughout l m (c ∷ calls) (answer ∷ answers) m' H R =
       let kept = step_promised l m c answer R.0 H R.1 in
       (R.0, R.1, kept, throughout (told code l c answer) R.0 calls answers m' kept.mirrored R.2)
+  throughout l m _ _ m' H R = R
 
 -- a blank store holds what the empty ledger says
 blank_mirrors : (F : Operations) (code : Code) (m : Meaning) → Blank m → Mirrors F code empty m

@@ -5,7 +5,7 @@ use Rattle.std.proofs.lemmas.Bool.{false≢true}
 use Rattle.field.specs.Laws.{Operations, Laws}
 use Rattle.code.specs.declared.record.Code.{Code}
 use Rattle.code.specs.declared.refusal.Refusal.{Refusal}
-use Rattle.code.specs.declared.refusal.Refusal.TheVariants.{Bounds, Shape, Length, Work, Outside, Symbol, Foreign, Lost, Contradiction, Ambiguous, Allowance}
+use Rattle.code.specs.declared.refusal.Refusal.TheVariants.{Shape, Work, Outside, Foreign, Contradiction, Ambiguous, Allowance}
 use Rattle.code.specs.Refusals.{number}
 use Rattle.code.specs.Stripe.{StripeOf}
 use Rattle.code.proofs.Places.{place_below}
@@ -33,37 +33,30 @@ module _ (F : Operations) (L : Laws F) (code : Code) (m : Meaning) (lost : ℕ �
   pub read_lower : (file : Option (List ℕ)) → HoldsOr F code m lost file → (j t work : ℕ)
       → (ReadHolds F code m j t work Shape → ⊥) → (ReadHolds F code m j t work Work → ⊥) → (ReadHolds F code m j t work Outside → ⊥)
       → (e : Refusal) → number e < 10 → ReadHolds F code m j t work e → ⊥
-  read_lower file H j t work shape long place Bounds l h = h
   read_lower file H j t work shape long place Shape l h = shape h
-  read_lower file H j t work shape long place Length l h = h
   read_lower file H j t work shape long place Work l h = long h
   read_lower file H j t work shape long place Outside l h = place h
-  read_lower file H j t work shape long place Symbol l h = h
   read_lower file H j t work shape long place (Foreign v c) l h =
       none_foreign F L code m lost (has_shape code m shape) file H v c h.0 h.1
-  read_lower file H j t work shape long place (Lost v c) l h = h
   read_lower file H j t work shape long place Contradiction l h =
       let u = some_fits F L code m lost (has_shape code m shape) file H in h u.0 u.1
   read_lower file H j t work shape long place Ambiguous l h = omega arith
   read_lower file H j t work shape long place Allowance l h = omega arith
+  read_lower file H j t work shape long place _ l h = h
 
   -- of a well-formed mend all no refusal below 10 holds
   pub mend_lower : (file : Option (List ℕ)) → HoldsOr F code m lost file → (work : ℕ)
       → (MendAllHolds F code m work Shape → ⊥) → (MendAllHolds F code m work Work → ⊥)
       → (e : Refusal) → number e < 10 → MendAllHolds F code m work e → ⊥
-  mend_lower file H work shape long Bounds l h = h
   mend_lower file H work shape long Shape l h = shape h
-  mend_lower file H work shape long Length l h = h
   mend_lower file H work shape long Work l h = long h
-  mend_lower file H work shape long Outside l h = h
-  mend_lower file H work shape long Symbol l h = h
   mend_lower file H work shape long (Foreign v c) l h =
       none_foreign F L code m lost (has_shape code m shape) file H v c h.0 h.1
-  mend_lower file H work shape long (Lost v c) l h = h
   mend_lower file H work shape long Contradiction l h =
       let u = some_fits F L code m lost (has_shape code m shape) file H in h u.0 u.1
   mend_lower file H work shape long Ambiguous l h = omega arith
   mend_lower file H work shape long Allowance l h = omega arith
+  mend_lower file H work shape long _ l h = h
 
   -- An accepted read returned the symbol of the ledger's file; with no file there is none.
   pub reads_symbol : (file : Option (List ℕ)) → HoldsOr F code m lost file → (j t work value : ℕ) (m' : Meaning)

@@ -7,7 +7,7 @@ use Rattle.field.specs.Laws.{Operations, Laws}
 use Rattle.algebra.proofs.Numbers.{add-zero}
 use Rattle.code.specs.declared.record.Code.{Code}
 use Rattle.code.specs.declared.refusal.Refusal.{Refusal}
-use Rattle.code.specs.declared.refusal.Refusal.TheVariants.{Bounds, Shape, Length, Work, Outside, Symbol, Foreign, Lost, Contradiction, Ambiguous, Allowance}
+use Rattle.code.specs.declared.refusal.Refusal.TheVariants.{Shape, Outside, Symbol, Foreign, Lost, Allowance}
 use Rattle.code.specs.Stripe.{Symbols, IsFile, StripeOf, parity, width}
 use Rattle.theorems.specs.Change.{changed}
 use Rattle.theorems.specs.Linear.{SingleFile}
@@ -64,17 +64,10 @@ module _ (F : Operations) (L : Laws F) (code : Code) (file : List ℕ) (I : IsFi
     loses_cell = (none, record { returned = refl; kept = same_shape code room (whole_cells code x) one_lost 1; cells = refl })
       where
         none : (e : Refusal) → LoseCellHolds code laid f c e → ⊥
-        none Bounds h = h
         none Shape h = h (refl, refl)
-        none Length h = h
-        none Work h = h
         none Outside h = h (known, inside)
-        none Symbol h = h
-        none (Foreign v d) h = h
-        none (Lost v d) h = h
-        none Contradiction h = h
-        none Ambiguous h = h
         none Allowance h = omega (arith, node_room F code room enough, code.data_columns)
+        none _ h = h
 
     loses_node : LoseNode code f (store code room one_lost) (Ok (width code)) (store code room node_lost)
     loses_node = loses F code room enough one_lost f known
@@ -123,20 +116,15 @@ module _ (F : Operations) (L : Laws F) (code : Code) (file : List ℕ) (I : IsFi
     )
       where
         none : (e : Refusal) → MendNodeHolds F code (store code room node_lost) f e → ⊥
-        none Bounds h = h
         none Shape h = h (refl, refl)
-        none Length h = h
-        none Work h = h
         none Outside h = omega arith
-        none Symbol h = h
         none (Foreign v d) (p, l, e, foreign, first) =
             none_foreign F L code (store code room node_lost) gone (refl, refl) (Some file) lost_holds v d
             (subst (λ (w : ℕ × ℕ). Inside code w.0 w.1) e ((every_round code f known).inside p l)) foreign
         none (Lost v d) (p, l, e, lost, first) =
             wanted_present p l (subst (λ (w : ℕ × ℕ). node_lost w.0 w.1 ≡ None) (sym e) lost)
-        none Contradiction h = h
-        none Ambiguous h = h
         none Allowance h = omega (arith, node_room F code room enough)
+        none _ h = h
 
   -- The symbol at (row, column) is changed.
   module _ (row column symbol : ℕ) (lr : row < code.k) (lc : column < code.m) (below : symbol < F.q) where
@@ -196,19 +184,15 @@ module _ (F : Operations) (L : Laws F) (code : Code) (file : List ℕ) (I : IsFi
     )
       where
         none : (e : Refusal) → ChangeHolds F code laid row column symbol e → ⊥
-        none Bounds h = h
         none Shape h = h (refl, refl)
-        none Length h = h
-        none Work h = h
         none Outside h = h (lr, lc)
         none Symbol h = omega arith
         none (Foreign v d) h =
             none_foreign F L code laid (λ j d. false) (refl, refl) (Some file) laid_holds v d (reached_inside v d h.0) h.1
         none (Lost v d) h =
             lost_held (whole_cells code x row column) (x row column) h.2 (inside_whole code x row column (data_inside code row column lr lc))
-        none Contradiction h = h
-        none Ambiguous h = h
         none Allowance h = omega (arith, all_present)
+        none _ h = h
 
     repaired : (f c : ℕ) → f < code.n → c < width code → Repaired F code file f c row column symbol
     repaired f c known inside = record {

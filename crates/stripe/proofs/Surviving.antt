@@ -1,11 +1,12 @@
 -- A run in which a file is laid, nodes are lost, a symbol is read and all is mended.
+use Rattle.std.proofs.lemmas.Grind.{common_steps}
 use Rattle.std.proofs.Common.{◌≡◌, ℕ, ◌+◌, ◌*◌, ◌<◌, ◌≤◌, Bool, true, false, ◌&&◌, eqb, ltb, ◌⊎◌, List, [], ◌∷◌, length, get_or, Some, None, Ok, Option, Result, sym, refl, ap, ◌∙◌, inl, inr, le_refl, arith}
 use Rattle.std.proofs.lemmas.Bool.{eqb-true, and_parts, cases_Bool, cond-true, cond-false, false≢true}
 use Rattle.field.specs.Laws.{Operations, Laws}
 use Rattle.algebra.specs.Vandermonde.{Listed}
 use Rattle.code.specs.declared.record.Code.{Code}
 use Rattle.code.specs.declared.refusal.Refusal.{Refusal}
-use Rattle.code.specs.declared.refusal.Refusal.TheVariants.{Bounds, Shape, Length, Work, Outside, Symbol, Foreign, Lost, Contradiction, Ambiguous, Allowance}
+use Rattle.code.specs.declared.refusal.Refusal.TheVariants.{Ambiguous, Allowance}
 use Rattle.code.specs.Refusals.{number}
 use Rattle.code.specs.Stripe.{Symbols, IsFile, StripeOf, Fits, parity, width}
 use Rattle.theorems.proofs.Stripes.{one_stripe}
@@ -24,17 +25,7 @@ use Rattle.stripe.proofs.Stores.{store, same_shape, lost_most, whole_cells, insi
 -- where neither a refusal below 10 holds nor 10 nor 11, none does
 no_refusal : (Holds : Refusal → Type 0) → ((e : Refusal) → number e < 10 → Holds e → ⊥) → (Holds Ambiguous → ⊥) → (Holds Allowance → ⊥)
     → (e : Refusal) → Holds e → ⊥
-no_refusal Holds lower ambiguous allowance Bounds = lower Bounds (omega arith)
-no_refusal Holds lower ambiguous allowance Shape = lower Shape (omega arith)
-no_refusal Holds lower ambiguous allowance Length = lower Length (omega arith)
-no_refusal Holds lower ambiguous allowance Work = lower Work (omega arith)
-no_refusal Holds lower ambiguous allowance Outside = lower Outside (omega arith)
-no_refusal Holds lower ambiguous allowance Symbol = lower Symbol (omega arith)
-no_refusal Holds lower ambiguous allowance (Foreign v c) = lower (Foreign v c) (omega arith)
-no_refusal Holds lower ambiguous allowance (Lost v c) = lower (Lost v c) (omega arith)
-no_refusal Holds lower ambiguous allowance Contradiction = lower Contradiction (omega arith)
-no_refusal Holds lower ambiguous allowance Ambiguous = ambiguous
-no_refusal Holds lower ambiguous allowance Allowance = allowance
+no_refusal Holds lower ambiguous allowance e h = grind (arith, common_steps)
 
 -- the cells with all those of the nodes lost, one node after another
 abbrev without : Code → Cells → List ℕ → Cells
