@@ -1,7 +1,8 @@
 -- The change of (2, 1) from 6 to 7 in five nodes that hold 1 to 8.
-use Rattle.std.proofs.Common.{◌≡◌, ℕ, zero, suc, ◌<◌, ◌≤◌, ◌&&◌, eqb, List, [], get_or, Some, Ok, Err, Option, Result, sym, refl, ap, ◌∙◌, subst, inl, inr, arith, lit<}
+use Rattle.std.proofs.lemmas.Grind.{common_steps}
+use Rattle.std.proofs.Common.{◌≡◌, ℕ, zero, suc, ◌<◌, ◌≤◌, List, [], get_or, Some, Ok, Err, Option, Result, sym, refl, ap, ◌∙◌, subst, inl, inr, arith, lit<}
 use Rattle.std.specs.Option.{option_map}
-use Rattle.std.proofs.lemmas.Bool.{cases_Bool, cases_eq, and_parts, eqb-true, cond-false}
+use Rattle.std.proofs.lemmas.Bool.{cases_eq, and_parts, eqb-true, cond-false}
 use Rattle.field.specs.Laws.{Operations}
 use Rattle.field.specs.Prime.{prime}
 use Rattle.field.specs.PrimeLaws.{prime_laws}
@@ -37,12 +38,7 @@ one_single F code p s u v U V =
 
 -- a write changes no other cell
 put_other : (f : Cells) (j c : ℕ) (o : Option ℕ) (i d : ℕ) → (◌≡◌ {A = ℕ × ℕ} (j, c) (i, d) → ⊥) → put f j c o i d ≡ f i d
-put_other f j c o i d away =
-    elim (cases_Bool (eqb i j && eqb d c)) [
-      | inl t ↦ let parts = and_parts (eqb i j) (eqb d c) t in
-          absurd (away (cc (eqb-true i j parts.0, eqb-true d c parts.1)))
-      | inr t ↦ cond-false (eqb i j && eqb d c) o (f i d) t
-    ]
+put_other f j c o i d away = grind (arith, common_steps, and_parts, cond-false, eqb-true)
 
 -- the four cells of the change, written one after another
 abbrev pub written : Cells → Cells
@@ -61,11 +57,7 @@ module _ (m : Meaning) (H : HoldsWithout prime five one_to_eight [] m) where
 
   added : (e i : ℕ) → e < 2 → i < 2 → Added (changed five 2 1 e i)
   unfolding Added
-  added e i le li =
-      below_two (λ e. Added (changed five 2 1 e i))
-      (below_two (λ i. Added (changed five 2 1 0 i)) (rw (holds 2 1 (lit< tt) (lit< tt))) (rw (holds 4 2 (lit< tt) (lit< tt))) i li)
-      (below_two (λ i. Added (changed five 2 1 1 i)) (rw (holds 4 1 (lit< tt) (lit< tt))) (rw (holds 1 2 (lit< tt) (lit< tt))) i li)
-      e le
+  added e i le li = grind (arith, common_steps, Added, below_two, holds)
 
   others : (v c : ℕ) → (Reached five 2 1 v c → ⊥) → written m.cell v c ≡ m.cell v c
   others v c out =

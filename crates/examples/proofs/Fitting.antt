@@ -1,5 +1,7 @@
 -- Which files fit a store that holds the stripe of a file but for some nodes.
-use Rattle.std.proofs.Common.{◌≡◌, ℕ, ◌<◌, false, cond, List, Some, None, Option, refl, ap, ◌∙◌, inl, inr}
+use Rattle.std.proofs.Common.{arith}
+use Rattle.std.proofs.lemmas.Grind.{common_steps}
+use Rattle.std.proofs.Common.{◌≡◌, ℕ, false, cond, List, Some, None, Option, refl, ap, ◌∙◌, inl, inr}
 use Rattle.std.proofs.lemmas.Bool.{cases_Bool, cond-true, cond-false}
 use Rattle.field.specs.Laws.{Operations, Laws}
 use Rattle.algebra.specs.Vandermonde.{Listed}
@@ -22,14 +24,7 @@ module _ (F : Operations) (L : Laws F) (code : Code) (file : List ℕ) (x : Symb
 
   -- A file whose stripe is the same in the nodes that are not lost fits.
   pub fits : (u : List ℕ) (y : Symbols) → IsFile F code u → StripeOf F code u y → SameOutside code lost y x → Fits F code m.cell u
-  fits u y is Y same = record { is_file = is; stripe = y; is_stripe = Y; agrees = agrees }
-    where
-      agrees : (j c v : ℕ) → j < code.n → c < width code → m.cell j c ≡ Some v → y j c ≡ v
-      agrees j c v lj lc e =
-          elim (cases_Bool (listed j lost)) [
-            | inl gone ↦ cc (H.absent j c (lj, lc) (listed_true j lost gone), e)
-            | inr out ↦ cc (same j c lj lc (listed_false j lost out), held j c (lj, lc) out, e)
-          ]
+  fits u y is Y same = grind (arith, common_steps, held, listed, listed_false, listed_true)
 
   -- The file itself fits.
   pub own_fits : IsFile F code file → Fits F code m.cell file
