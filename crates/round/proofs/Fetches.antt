@@ -115,14 +115,11 @@ module _ {X : Type 0} (F : Operations) (code : Code) (f : ℕ) (cells : List ℕ
 
   -- the next column begins
   pub next_column : (v : ℕ) (t : Taken X) (w : Wanting X) → Takes F h (v, t) → t ≡ taken.Wanting w
-      → Fetching F code f cells w × (w.place ≡ 0) × (w.column ≡ h.column + 1) × (v ≡ made_in F code f cells h.column)
+      → Fetching F code f cells w × (w.column ≡ h.column + 1) × (v ≡ made_in F code f cells h.column)
   next_column v t w takes is =
       let k = subst (λ (x : Taken X). Takes F h (v, x)) is takes in
       let on = k.given_same code f (fetched code f cells (given_holding h)) was in
-      let m : w.code.m ≡ h.code.m = ap (λ (x : Code). x.m) (on.code_is ∙ sym was.code_is) in
-      let column = k.column in
-      let count : (h.column + 1) * h.code.m + w.place ≡ (h.column + 1) * h.code.m = rw (column, m) at k.counted in
-      (subst (λ (p : ℕ). Wants F code f (fetched code f cells p) w) (sym k.counted) on, omega arith, column, k.symbol ∙ finished_is)
+      (subst (λ (p : ℕ). Wants F code f (fetched code f cells p) w) (sym k.counted) on, k.column, k.symbol ∙ finished_is)
 
   -- the last column was finished
   pub last_column : (v : ℕ) (t : Taken X) (o : Over X) → Takes F h (v, t) → t ≡ taken.Over o
@@ -137,11 +134,6 @@ module _ {X : Type 0} (F : Operations) (code : Code) (f : ℕ) (cells : List ℕ
         sym (k.last ∙ ap width was.code_is),
         k.symbol ∙ finished_is,
       )
-
--- a round that was given nothing stands at its first column
-pub nothing_given : {X : Type 0} (F : Operations) (code : Code) (f : ℕ) (cells : List ℕ) (w : Wanting X) → Wants F code f [] w
-    → Fetching F code f cells w × (w.place ≡ 0) × (w.column ≡ 0)
-nothing_given F code f cells w was = grind (arith, common_steps)
 
 -- the same round, by its own code and node
 pub holds_for : {X : Type 0} (F : Operations) (code code' : Code) (f f' : ℕ) (cells : List ℕ) (h : Holding X) → code ≡ code' → f ≡ f'
@@ -158,6 +150,11 @@ pub record Collects {X : Type 0} (F : Operations) (code : Code) (f : ℕ) (cells
   pub fetching : Fetching F code f cells w
   pub room : length symbols ≡ 11
   pub taken : (c : ℕ) → c < w.column → get_or symbols c 0 ≡ made_in F code f cells c
+
+-- a round that was given nothing stands at its first column
+pub collects_none : {X : Type 0} (F : Operations) (code : Code) (f : ℕ) (cells symbols : List ℕ) (w : Wanting X)
+    → Wants F code f [] w → length symbols ≡ 11 → Collects F code f cells w symbols
+collects_none F code f cells symbols w was room = grind (arith, common_steps)
 
 -- A column is finished and its symbol is taken.
 module _ {X : Type 0} (F : Operations) (code : Code) (f : ℕ) (cells symbols : List ℕ) (w : Wanting X)
@@ -178,7 +175,7 @@ module _ {X : Type 0} (F : Operations) (code : Code) (f : ℕ) (cells symbols : 
       record {
         fetching = on.0;
         room = length-set _ _ _ ∙ so_far.room;
-        taken = in_place on.3 w'.column on.2;
+        taken = in_place on.2 w'.column on.1;
       }
 
   pub collects_all : (o : Over X) → t ≡ taken.Over o → (n : ℕ) → n ≡ given_over o

@@ -1,13 +1,10 @@
-use Rattle.std.proofs.Common.{refl, arith}
-use Rattle.round.proofs.Fetches.{nothing_given, collects_on, collects_all}
+use Rattle.std.proofs.Common.{refl}
+use Rattle.round.proofs.Fetches.{collects_none, collects_on, collects_all}
 use Rattle.round.proofs.whole.run.Goals as goal
 
 pub loop-holding-init : goal.loop-holding-init
 loop-holding-init g c =
-    let w = c.args.round in
-    let none = nothing_given g.F.Field.ops w.code w.node c.args.cells.now w c.requires.begun in
-    let first = none.2 in
-    record { fetching = none.0; room = refl; taken = λ k h. absurd (omega arith) }
+    collects_none g.F.Field.ops c.args.round.code c.args.round.node c.args.cells.now _ c.args.round c.requires.begun refl
 
 pub loop-holding-preserved : goal.loop-holding-preserved
 loop-holding-preserved g c =
