@@ -1,5 +1,5 @@
 -- A store over a row of numbers.
-use Rattle.std.specs.Prelude.{◌≡◌, ℕ, ◌+◌, ◌*◌, ◌<◌, ◌≤◌, Bool, false, cond, ◌&&◌, ◌⊎◌, List, length, Some, None, Option, nat_le, nat_lt, slice_index, slice_set}
+use Rattle.std.specs.Prelude.{◌≡◌, ℕ, ◌+◌, ◌*◌, ◌<◌, ◌≤◌, Bool, true, false, cond, ◌&&◌, ◌⊎◌, List, length, Some, None, Option, nat_le, nat_lt, slice_index, slice_set}
 use Rattle.store.specs.Meaning.{Meaning}
 use Rattle.store.specs.declared.lent.Grid.{Grid}
 
@@ -31,6 +31,19 @@ meaning_of g = grid (numbers g) g.nodes g.columns
 -- the row with x in the cell of node j, column c, where that is taken, and the same row where it is not
 abbrev pub put_number : Grid → ℕ → ℕ → ℕ → Bool → List ℕ
 put_number g j c x taken = cond taken (slice_set (numbers g) (j * g.columns + c) x) (numbers g)
+
+-- the number that stands for what a cell is to hold: a symbol stands for itself
+abbrev pub number_of : Option ℕ → ℕ
+number_of None = lost_mark
+number_of (Some s) = s
+
+-- What an edit that is taken does to a grid: over the same memory with as many nodes and columns, the row
+-- is the one before with one number put at the place of the cell, j · columns + c.
+pub record PutNumber (before : Grid) (j c : ℕ) (v : Option ℕ) (after : Grid) : Type 0 where
+  pub memory : after.cells.ghost_name ≡ before.cells.ghost_name
+  pub nodes : after.nodes ≡ before.nodes
+  pub columns : after.columns ≡ before.columns
+  pub row : numbers after ≡ put_number before j c (number_of v) true
 
 -- the place of cell (j, c) in the row, if the cell is inside
 abbrev pub Place : Grid → ℕ → ℕ → Option ℕ → Type 0

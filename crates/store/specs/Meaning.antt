@@ -1,5 +1,5 @@
 -- What a store of cells means, and what a write or a loss of one cell does to it.
-use Rattle.std.specs.Prelude.{◌≡◌, ℕ, ◌+◌, ◌<◌, ◌≤◌, Bool, false, cond, ◌&&◌, Some, None, Option, ◌==◌, nat_lt}
+use Rattle.std.specs.Prelude.{◌≡◌, ℕ, ◌+◌, ◌<◌, ◌≤◌, Bool, true, false, cond, ◌&&◌, Some, None, Option, ◌==◌, nat_lt}
 
 -- for each cell, by node and column, a number, or nothing where the cell is lost
 abbrev pub Cells : Type 0
@@ -44,7 +44,24 @@ pub record Changed (before : Meaning) (j c : ℕ) (v : Option ℕ) (taken : Bool
   pub most : after.allowance ≤ before.allowance
   pub least : before.allowance ≤ after.allowance + cond taken 1 0
 
+-- a number from 0 to 65,535, or none
+abbrev pub IsCell : Option ℕ → Type 0
+IsCell None = Unit {0}
+IsCell (Some s) = s < 65536
+
+-- What an edit of a cell that is allowed does to a store decides what it does to the meaning.
+abbrev pub Edits : {S : Type 0} → (S → Meaning) → (S → ℕ → ℕ → Option ℕ → S → Type 0) → Type 0
+Edits {S} meaning edited =
+    (old new : S) (j c : ℕ) (v : Option ℕ) → IsCell v → allowed (meaning old) j c ≡ true → edited old j c v new
+    → Changed (meaning old) j c v true (meaning new)
+
 -- a relation that every value has to itself, and that two steps hand on
 pub record Frames {S : Type 0} (frame : S → S → Type 0) : Type 0 where
   pub same : (s : S) → frame s s
   pub joined : (r s t : S) → frame r s → frame s t → frame r t
+
+-- An edit of a cell that is allowed is a step of the frame.
+abbrev pub Framed : {S : Type 0} → (S → Meaning) → (S → ℕ → ℕ → Option ℕ → S → Type 0) → (S → S → Type 0) → Type 0
+Framed {S} meaning edited frame =
+    (old new : S) (j c : ℕ) (v : Option ℕ) → IsCell v → allowed (meaning old) j c ≡ true → edited old j c v new
+    → frame old new

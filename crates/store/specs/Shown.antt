@@ -1,9 +1,11 @@
--- That every grid keeps the laws of a meaning, and that its later states are a frame.
-use Rattle.std.specs.Prelude.{◌≡◌, ℕ, ◌+◌, ◌*◌, ◌<◌, ◌≤◌, Bool, true, false, cond, ◌&&◌, Some, None, Option, nat_le, nat_lt, slice_index, refl}
-use Rattle.std.proofs.Common.{◌∙◌, inl, inr, arith, leb-true}
-use Rattle.std.proofs.lemmas.Bool.{cases_Bool}
-use Rattle.store.specs.Meaning.{Lawful, Frames}
-use Rattle.store.specs.Grids.{meaning_of, told, Later, numbers}
+-- That every grid keeps the laws of a meaning, that an edit changes one cell, and that later states are a frame.
+use Rattle.std.proofs.Common.{◌≡◌, ℕ, ◌+◌, ◌*◌, ◌<◌, ◌≤◌, Bool, true, false, cond, ◌&&◌, Some, None, Option, nat_le, nat_lt, slice_index, slice_set, List, length, set, get_or, refl, sym, ap, ◌∙◌, inl, inr, arith, leb-true, get_or-set_other, get_or-set_same, length-set}
+use mathlib.Core.Path.{fun_ext}
+use Rattle.std.proofs.lemmas.Nat.{mul-add-lt, same_from_place}
+use Rattle.std.proofs.lemmas.Bool.{cases_Bool, cases_lt, cases_eq}
+use Rattle.std.proofs.lemmas.Bool.Decides.{nat_tests}
+use Rattle.store.specs.Meaning.{Lawful, Edits, Frames, Framed, IsCell, put}
+use Rattle.store.specs.Grids.{grid, meaning_of, told, number_of, PutNumber, numbers, Markable, Later}
 use Rattle.store.specs.declared.lent.Grid.{Grid}
 
 told_small : (x v : ℕ) → told x ≡ Some v → v < 65536
@@ -29,6 +31,78 @@ grid_lawful g = record {
   outside = λ j c h. rw h;
   symbols = λ j c v e. cut (nat_lt j g.nodes && nat_lt c g.columns) (slice_index (numbers g) (j * g.columns + c)) v e;
 }
+
+-- a number put into the row at the place of a cell is put into that cell alone
+grid_put : (row : List ℕ) (n w j c x : ℕ) → n * w ≤ length row → j < n → c < w
+    → (grid (slice_set row (j * w + c) x) n w).cell ≡ put (grid row n w).cell j c (told x)
+grid_put row n w j c x fits hj hc = fun_ext λ i. fun_ext λ d. go i d
+  where
+    lt : j * w + c < length row
+    lt = omega (arith, mul-add-lt j w c n hj hc)
+
+    go : (i d : ℕ) → (grid (set row (j * w + c) x) n w).cell i d ≡ put (grid row n w).cell j c (told x) i d
+    go i d =
+        elim (cases_lt d w) [
+          | inl hd ↦
+              elim (cases_eq (i * w + d) (j * w + c)) [
+                | inl e ↦
+                    let s = same_from_place i d j c w hd hc e in
+                    let g : get_or (set row (j * w + c) x) (i * w + d) 0 ≡ x = rw e (get_or-set_same row (j * w + c) x 0 lt) in
+                    let p = s.0 in
+                    let q = s.1 in
+                    grind (arith, nat_tests)
+                | inr ne ↦
+                    let g = get_or-set_other row (j * w + c) (i * w + d) x 0 ne in
+                    grind (arith, nat_tests)
+              ]
+          | inr hd ↦ grind (arith, nat_tests)
+        ]
+
+-- the number that stands for a cell is told as that cell
+told_number : (v : Option ℕ) → IsCell v → told (number_of v) ≡ v
+told_number None h = refl
+told_number (Some s) h = grind (arith, nat_tests)
+
+-- an edit of a grid changes one cell of what it means
+pub grid_edits : Edits meaning_of PutNumber
+grid_edits old new j c v cell taken e =
+    let hj : j < old.nodes = grind (arith, nat_tests) in
+    let hc : c < old.columns = grind (arith, nat_tests) in
+    record {
+      answer = sym taken;
+      nodes = e.nodes;
+      columns = e.columns;
+      cell = rw (e.row, e.nodes, e.columns)
+          (grid_put (numbers old) old.nodes old.columns j c (number_of v) old.room hj hc ∙ ap (put (meaning_of old).cell j c) (told_number v cell));
+      most = omega arith;
+      least = omega arith;
+    }
+
+markable : (v : Option ℕ) → IsCell v → Markable (number_of v)
+markable None h = inr refl
+markable (Some s) h = inl (omega arith)
+
+-- an edit of a grid makes a later state of it
+pub edits_later : Framed meaning_of PutNumber Later
+edits_later old new j c v cell taken e =
+    let hj : j < old.nodes = grind (arith, nat_tests) in
+    let hc : c < old.columns = grind (arith, nat_tests) in
+    let at = j * old.columns + c in
+    let within = mul-add-lt j old.columns c old.nodes hj hc in
+    let m = markable v cell in
+    record {
+      memory = e.memory;
+      nodes = e.nodes;
+      columns = e.columns;
+      room = ap length e.row ∙ length-set (numbers old) at (number_of v);
+      kept = λ x. rw e.row (elim (cases_eq x at) [
+        | inl p ↦
+            let s : get_or (set (numbers old) at (number_of v)) x 0 ≡ number_of v =
+            rw p (get_or-set_same (numbers old) at (number_of v) 0 (let r = old.room in omega arith)) in
+            inr (omega arith, rw s m)
+        | inr n ↦ inl (get_or-set_other (numbers old) at x (number_of v) 0 n)
+      ]);
+    }
 
 pub later_frames : Frames Later
 later_frames = record {

@@ -1,8 +1,8 @@
-// The record of a grid.
+//! The record of a grid.
 ghost use Rattle.std.specs.Prelude.{◌*◌, ◌≤◌, length};
 
-// A store over a row of numbers that its owner lends: cell (j, c) is the number at j · columns + c, and
-// a number above 65,535 is a lost cell. All cells lie within the row.
+/// A store over a row of numbers that its owner lends: cell (j, c) is the number at j · columns + c, and
+/// a number above 65,535 is a lost cell. All cells lie within the row.
 #[derive(Drop)]
 pub struct Grid<'a> {
     pub(crate) cells: &'a mut [u32],

@@ -1,50 +1,88 @@
-// Stores of cells: what every store does, and a store over a row of numbers.
+//! Stores of cells: what every store does, and a store over a row of numbers.
 #![tactic(auto)]
 
-ghost use Rattle.std.specs.Prelude.{◌≡◌, ◌*◌, ◌≤◌, length, replicate, Some, None};
-ghost use Rattle.store.specs.Meaning.{Meaning, Lawful, Changed, Frames, Blank};
+ghost use Rattle.std.specs.Prelude.{◌≡◌, ℕ, ◌*◌, ◌≤◌, length, replicate, Option, Some, None};
+ghost use Rattle.std.specs.Bool.{OnTrue, OnFalse};
+ghost use Rattle.store.specs.Meaning.{Meaning, Lawful, Changed, Edits, Frames, Framed, Blank, allowed};
 ghost use Rattle.store.specs.Sizes.{counted_columns, counted_nodes, whole_nodes};
-ghost use Rattle.store.specs.Grids.{Later, grid, told, numbers, meaning_of, put_number, lost_mark, Place, Markable};
-ghost use Rattle.store.specs.Shown.{grid_lawful, later_frames};
+ghost use Rattle.store.specs.Grids.{PutNumber, Later, grid, numbers, meaning_of, lost_mark, Place};
+ghost use Rattle.store.specs.Shown.{grid_lawful, grid_edits, later_frames, edits_later};
 
 mod lent;
 
 pub use lent::Grid;
 
-// A store of cells. The questions change nothing and tell the meaning. `write` and `lose` say whether
-// the change was taken: that is so exactly where there is such a cell and the allowance is not used up.
+/// A store of cells. The questions change nothing and tell the meaning. `edit`, `write` and `lose` say
+/// whether the change was taken: that is so exactly where there is such a cell and the allowance is not
+/// used up. A change that is not taken leaves the store itself as it is.
+///
+/// A store of its own kind writes `edit` alone, and `write` and `lose` are made of it.
 pub trait Store {
-    // the nodes, the columns, what each cell holds, and the allowance
+    /// the nodes, the columns, what each cell holds, and the allowance
     ghost meaning: { Self → Meaning };
 
-    // a cell outside is told as lost, and no cell holds a number above 65,535
-    ghost lawful: { (s : Self) → Lawful (meaning s) };
+    /// what a write (`Some` of the symbol) or a loss (`None`) of one cell, where it is taken, does to the
+    /// store itself and to the memory that it lies in
+    ghost edited: { Self → ℕ → ℕ → Option ℕ → Self → Type 0 };
 
-    // what every change keeps: a store over lent memory is still over the same memory
+    /// what any number of changes keeps: a store over lent memory is still over the same memory
     ghost frame: { Self → Self → Type 0 };
 
-    ghost frames: { Frames frame };
-
+    /// How many nodes there are.
     fn nodes(&self) -> usize
         ensures { result ≡ (meaning self.now).nodes };
 
+    /// How many columns there are.
     fn columns(&self) -> usize
         ensures { result ≡ (meaning self.now).columns };
 
-    // What a cell holds, or `None` where it is lost or outside.
+    /// What a cell holds, or `None` where it is lost or outside.
     fn cell(&self, j: usize, c: usize) -> Option<u16>
         ensures { result ≡ (meaning self.now).cell j c };
 
+    /// How many changes are still taken, wherever their cells are inside.
     fn allowance(&self) -> usize
         ensures { result ≡ (meaning self.now).allowance };
 
-    fn write(&mut self, j: usize, c: usize, s: u16) -> bool
-        ensures changed { Changed (meaning self.old) j c (Some s) result (meaning self.new) }
-        ensures framed { frame self.old self.new };
+    /// Writes a symbol into a cell, or loses the cell where `v` is `None`. What that does to the meaning
+    /// and to the frame follows by the laws below.
+    fn edit(&mut self, j: usize, c: usize, v: Option<u16>) -> bool
+        ensures answer { result ≡ allowed (meaning self.old) j c }
+        ensures edited { OnTrue result (edited self.old j c v self.new) }
+        ensures declined { OnFalse result (self.new ≡ self.old) };
 
+    /// Writes a symbol into a cell.
+    fn write(&mut self, j: usize, c: usize, s: u16) -> bool
+        ensures answer { result ≡ allowed (meaning self.old) j c }
+        ensures changed { Changed (meaning self.old) j c (Some s) result (meaning self.new) }
+        ensures framed { frame self.old self.new }
+        ensures edited { OnTrue result (edited self.old j c (Some s) self.new) }
+        ensures declined { OnFalse result (self.new ≡ self.old) }
+    {
+        self.edit(j, c, Some(s))
+    }
+
+    /// Loses a cell.
     fn lose(&mut self, j: usize, c: usize) -> bool
+        ensures answer { result ≡ allowed (meaning self.old) j c }
         ensures changed { Changed (meaning self.old) j c None result (meaning self.new) }
-        ensures framed { frame self.old self.new };
+        ensures framed { frame self.old self.new }
+        ensures edited { OnTrue result (edited self.old j c None self.new) }
+        ensures declined { OnFalse result (self.new ≡ self.old) }
+    {
+        self.edit(j, c, None)
+    }
+
+    /// a cell outside is told as lost, and no cell holds a number above 65,535
+    ghost lawful: { (s : Self) → Lawful (meaning s) };
+
+    /// what an edit does to a store decides what it does to the meaning
+    ghost edits: { Edits meaning edited };
+
+    /// a change keeps the frame, and so do many
+    ghost frames: { Frames frame };
+
+    ghost framed: { Framed meaning edited frame };
 }
 
 // The most nodes and the most columns that a store is made with.
@@ -52,22 +90,20 @@ const MOST_NODES: usize = 64;
 
 const MOST_COLUMNS: usize = 11;
 
-// The number that marks a lost cell of a grid, and the largest number that a cell holds.
-const LOST: u32 = 4294967295;
-
-const MOST: u32 = 65535;
+// The number that marks a lost cell of a grid.
+const LOST: u32 = u32::MAX;
 
 // A grid's allowance, which no change spends.
 const ALLOWANCE: usize = 65535;
 
-// The columns as a store counts them: above 11 they count as 11.
+/// The columns as a store counts them: above 11 they count as 11.
 pub fn count_columns(columns: usize) -> usize
     ensures { result ≡ counted_columns columns }
 {
     columns.min(MOST_COLUMNS)
 }
 
-// The nodes as a store counts them: above 64 they count as 64, and with no columns there are none.
+/// The nodes as a store counts them: above 64 they count as 64, and with no columns there are none.
 pub fn count_nodes(nodes: usize, columns: usize) -> usize
     ensures { result ≡ counted_nodes nodes columns }
 {
@@ -90,7 +126,7 @@ fn whole_nodes(nodes: usize, columns: usize, room: usize) -> usize
 }
 
 impl<'a> Grid<'a> {
-    // A grid over memory that keeps its numbers. Nodes that do not fit whole are dropped.
+    /// A grid over memory that keeps its numbers. Nodes that do not fit whole are dropped.
     pub fn take_up(nodes: usize, columns: usize, memory: &'a mut [u32]) -> Grid<'a>
         ensures means { meaning_of result
             ≡ grid memory.old (whole_nodes nodes columns (length memory.old)) (counted_columns columns) }
@@ -105,7 +141,7 @@ impl<'a> Grid<'a> {
         }
     }
 
-    // A grid whose cells are all lost: every number of the memory becomes the mark of a lost cell.
+    /// A grid whose cells are all lost: every number of the memory becomes the mark of a lost cell.
     pub fn blank(nodes: usize, columns: usize, memory: &'a mut [u32]) -> Grid<'a>
         ensures means { meaning_of result
             ≡ grid (replicate (length memory.old) lost_mark) (whole_nodes nodes columns (length memory.old))
@@ -128,32 +164,22 @@ impl<'a> Grid<'a> {
             None
         }
     }
-
-    // Puts a number into a cell, if the cell is inside.
-    fn put(&mut self, j: usize, c: usize, x: u32) -> bool
-        requires { Markable x }
-        ensures changed { Changed (meaning_of self.old) j c (told x) result (meaning_of self.new) }
-        ensures framed { Later self.old self.new }
-        ensures held { numbers self.new ≡ put_number self.old j c x result }
-    {
-        match self.place(j, c) {
-            None => false,
-            Some(at) => {
-                self.cells[at] = x;
-                true
-            }
-        }
-    }
 }
 
 impl<'a> Store for Grid<'a> {
     ghost meaning = { meaning_of };
 
-    ghost lawful = { grid_lawful };
+    ghost edited = { PutNumber };
 
     ghost frame = { Later };
 
+    ghost lawful = { grid_lawful };
+
+    ghost edits = { grid_edits };
+
     ghost frames = { later_frames };
+
+    ghost framed = { edits_later };
 
     fn nodes(&self) -> usize {
         self.nodes
@@ -164,27 +190,20 @@ impl<'a> Store for Grid<'a> {
     }
 
     fn cell(&self, j: usize, c: usize) -> Option<u16> {
-        let x = self.cells[self.place(j, c)?];
-        if x <= MOST { Some(x as u16) } else { None }
+        u16::try_from(self.cells[self.place(j, c)?]).ok()
     }
 
     fn allowance(&self) -> usize {
         ALLOWANCE
     }
 
-    fn write(&mut self, j: usize, c: usize, s: u16) -> bool
-        ensures changed { Changed (meaning_of self.old) j c (Some s) result (meaning_of self.new) }
-        ensures framed { Later self.old self.new }
-        ensures held { numbers self.new ≡ put_number self.old j c s result }
-    {
-        self.put(j, c, u32::from(s))
-    }
-
-    fn lose(&mut self, j: usize, c: usize) -> bool
-        ensures changed { Changed (meaning_of self.old) j c None result (meaning_of self.new) }
-        ensures framed { Later self.old self.new }
-        ensures held { numbers self.new ≡ put_number self.old j c lost_mark result }
-    {
-        self.put(j, c, LOST)
+    fn edit(&mut self, j: usize, c: usize, v: Option<u16>) -> bool {
+        match self.place(j, c) {
+            None => false,
+            Some(at) => {
+                self.cells[at] = v.map_or(LOST, u32::from);
+                true
+            }
+        }
     }
 }
