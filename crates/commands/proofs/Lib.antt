@@ -1,4 +1,3 @@
 pub mod Tests
-pub mod Fronts
 pub mod Reading
 pub mod Walks

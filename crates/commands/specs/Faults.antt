@@ -1,5 +1,5 @@
 -- The faults of a card: their numbers and places, and what each one says of the bytes.
-use Rattle.std.specs.Prelude.{◌≡◌, ℕ, ◌<◌, ◌⊎◌, List, ◌++◌, length, Ok, Err, Result, MatchResult, ◌≢◌, slice_index}
+use Rattle.std.specs.Prelude.{◌≡◌, ℕ, ◌<◌, ◌⊎◌, List, ◌++◌, length, Ok, Err, Result, MatchResult, ◌≢◌, slice_index, codes, decimal}
 use Rattle.store.specs.Meaning.{Meaning}
 use Rattle.commands.specs.declared.command.Command.{Command}
 use Rattle.commands.specs.declared.command.CardFault.{CardFault}
@@ -17,6 +17,10 @@ abbrev pub place : CardFault → ℕ
 place (Letter at) = at
 place (Short at) = at
 place (Outside at) = at
+
+-- the text of a fault
+abbrev pub text : CardFault → List ℕ
+text fault = codes "fault " ++ (decimal (number fault) ++ (codes " at place " ++ decimal (place fault)))
 
 -- the first byte is no letter of a command
 abbrev pub NoLetter : List ℕ → Type 0

@@ -1,85 +1,82 @@
-// The commands of a card as bytes, a walk over them, and the check of a card.
+//! The commands of a card as bytes, a walk over them, and the check of a card.
 #![tactic(auto)]
 
-ghost use Rattle.std.specs.Prelude.{◌≡◌, ◌<◌, true, if◌then◌else◌, MatchResult};
+ghost use Rattle.std.specs.Prelude.{◌≡◌, ◌<◌, ◌++◌, [], true, Some, if◌then◌else◌, MatchResult, MatchOption};
 ghost use Rattle.store.specs.Sizes.{counted_columns, counted_nodes};
-ghost use Rattle.commands.specs.Commands.{node_of, column_of, value_of, is_on, TwoBytes, Inside, ReadsBack, OneReading};
-ghost use Rattle.commands.specs.Faults.{number, place, Begins, Faulty, Checked, Agrees};
+ghost use Rattle.commands.specs.Commands.{node_of, column_of, value_of, is_on, bytes_of, commands_in, TwoBytes, ReadsBack, OneReading};
+ghost use Rattle.commands.specs.Walk.{commands_left, CutOff};
+ghost use Rattle.commands.specs.Faults.{number, place, text, Begins, Faulty, Checked, Agrees};
 
+use std::error::Error;
+use std::fmt;
 use store::{count_columns, count_nodes};
 
 mod command;
 
-pub use command::{CardFault, Command};
+pub use command::{CardFault, Command, Commands};
 
 impl CardFault {
-    // The fault's number, 21 to 23.
+    /// The fault's number, 21 to 23.
     pub fn number(&self) -> u8
         ensures { result ≡ number self.now }
     {
         match self {
-            CardFault::Letter { at: _ } => 21,
-            CardFault::Short { at: _ } => 22,
-            CardFault::Outside { at: _ } => 23,
+            CardFault::Letter { .. } => 21,
+            CardFault::Short { .. } => 22,
+            CardFault::Outside { .. } => 23,
         }
     }
 
-    // The place of the first byte of the faulty command.
+    /// The place of the first byte of the faulty command.
     pub fn place(&self) -> usize
         ensures { result ≡ place self.now }
     {
         match self {
-            CardFault::Letter { at } => *at,
-            CardFault::Short { at } => *at,
-            CardFault::Outside { at } => *at,
+            CardFault::Letter { at } | CardFault::Short { at } | CardFault::Outside { at } => *at,
         }
     }
 }
 
+impl fmt::Display for CardFault {
+    ghost output = { λ e. Some (text e) };
+
+    fn fmt<W: fmt::Write>(&self, f: &mut fmt::Formatter<W>) -> fmt::Result {
+        write!(f, "fault {} at place {}", self.number(), self.place())
+    }
+}
+
+impl Error for CardFault {}
+
 impl Command {
-    // The command's node.
+    /// The command's node.
     pub fn node(&self) -> usize
         ensures { result ≡ node_of self.now }
     {
         match self {
-            Command::Write {
-                node,
-                column: _,
-                symbol: _,
-            } => usize::from(*node),
-            Command::Lose { node, column: _ } => usize::from(*node),
+            Command::Write { node, .. } | Command::Lose { node, .. } => usize::from(*node),
         }
     }
 
-    // The command's column.
+    /// The command's column.
     pub fn column(&self) -> usize
         ensures { result ≡ column_of self.now }
     {
         match self {
-            Command::Write {
-                node: _,
-                column,
-                symbol: _,
-            } => usize::from(*column),
-            Command::Lose { node: _, column } => usize::from(*column),
+            Command::Write { column, .. } | Command::Lose { column, .. } => usize::from(*column),
         }
     }
 
-    // What the command leaves in its cell: a symbol, or `None` for a lost cell.
+    /// What the command leaves in its cell: a symbol, or `None` for a lost cell.
     pub fn value(&self) -> Option<u16>
         ensures { result ≡ value_of self.now }
     {
         match self {
-            Command::Write {
-                node: _,
-                column: _,
-                symbol,
-            } => Some(*symbol),
-            Command::Lose { node: _, column: _ } => None,
+            Command::Write { symbol, .. } => Some(*symbol),
+            Command::Lose { .. } => None,
         }
     }
 
-    // What cell (j, c) holds after the command, where it held `before`.
+    /// What cell (j, c) holds after the command, where it held `before`.
     pub fn leaves(&self, j: usize, c: usize, before: Option<u16>) -> Option<u16>
         ensures { result ≡ (if is_on self.now j c then value_of self.now else before) }
     {
@@ -91,8 +88,8 @@ impl Command {
     }
 }
 
-// Commands written as bytes and read back are the same commands, and bytes can be read in one way only.
-// It holds of all lists of commands, so a card needs no marks between them. The answer is always `true`.
+/// Commands written as bytes and read back are the same commands, and bytes can be read in one way only.
+/// It holds of all lists of commands, so a card needs no marks between them. The answer is always `true`.
 pub fn reading_stands() -> bool
     ensures back { ReadsBack }
     ensures single { OneReading }
@@ -101,27 +98,59 @@ pub fn reading_stands() -> bool
     true
 }
 
-// The command and the bytes after it, or fault 23 where its cell is outside.
-fn on_cell(
-    nodes: usize,
-    columns: usize,
-    at: usize,
-    command: Command,
-    rest: &[u8],
-) -> Result<(Command, &[u8]), CardFault>
-    requires { TwoBytes (value_of command) }
-    ensures { MatchResult result (λ p. (p.0 ≡ command) × (p.1.now ≡ rest.now) × Inside nodes columns command)
-        (λ f. (f ≡ CardFault.Outside at) × ((node_of command < nodes) × (column_of command < columns) → ⊥)) }
+// The command that the bytes begin with, on whatever cell, and the bytes after it.
+fn first_command(bytes: &[u8]) -> Option<(Command, &[u8])>
+    ensures { MatchOption result (CutOff bytes.now × (commands_in bytes.now ≡ []))
+        (λ p. (bytes.now ≡ bytes_of p.0 ++ p.1.now) × TwoBytes (value_of p.0)) }
 {
-    if command.node() < nodes && command.column() < columns {
-        Ok((command, rest))
-    } else {
-        Err(CardFault::Outside { at })
+    match bytes {
+        [b'W', node, column, high, low, rest @ ..] => Some((
+            Command::Write {
+                node: *node,
+                column: *column,
+                symbol: u16::from_be_bytes([*high, *low]),
+            },
+            rest,
+        )),
+        [b'L', node, column, rest @ ..] => Some((
+            Command::Lose {
+                node: *node,
+                column: *column,
+            },
+            rest,
+        )),
+        _ => None,
     }
 }
 
-// The command that the bytes begin with, and the bytes after it. The first byte is at place `at` of a
-// card with so many nodes and columns, so that a walk may start in the middle of a card.
+impl<'a> Commands<'a> {
+    /// The commands that the bytes begin with.
+    pub fn new(bytes: &'a [u8]) -> Commands<'a>
+        ensures { commands_left result ≡ commands_in bytes.now }
+    {
+        Commands { bytes }
+    }
+}
+
+impl<'a> Iterator for Commands<'a> {
+    ghost use Rattle.std.specs.Iterator.{item_count, YieldsFirst};
+    ghost use Rattle.commands.specs.Walk.{commands_left};
+
+    type Item = Command;
+
+    ghost next_gives = { YieldsFirst commands_left };
+
+    ghost remaining = { item_count commands_left };
+
+    fn next(&mut self) -> Option<Command> {
+        let (command, rest) = first_command(self.bytes)?;
+        self.bytes = rest;
+        Some(command)
+    }
+}
+
+/// The command that the bytes begin with, and the bytes after it. The first byte is at place `at` of a
+/// card with so many nodes and columns, so that a walk may start in the middle of a card.
 pub fn next_command(
     nodes: usize,
     columns: usize,
@@ -131,36 +160,15 @@ pub fn next_command(
     ensures { MatchResult result (λ p. Begins nodes columns bytes.now p.0 p.1.now)
         (λ f. Faulty nodes columns at bytes.now f) }
 {
-    match bytes {
-        [b'W', node, column, high, low, rest @ ..] => {
-            let symbol = u16::from(*high) * 256 + u16::from(*low);
-            on_cell(
-                nodes,
-                columns,
-                at,
-                Command::Write {
-                    node: *node,
-                    column: *column,
-                    symbol,
-                },
-                rest,
-            )
+    match first_command(bytes) {
+        Some((command, rest)) if command.node() < nodes && command.column() < columns => {
+            Ok((command, rest))
         }
-        [b'L', node, column, rest @ ..] => {
-            on_cell(
-                nodes,
-                columns,
-                at,
-                Command::Lose {
-                    node: *node,
-                    column: *column,
-                },
-                rest,
-            )
-        }
-        [] => Err(CardFault::Short { at }),
-        [b'W' | b'L', ..] => Err(CardFault::Short { at }),
-        [_, ..] => Err(CardFault::Letter { at }),
+        Some(_) => Err(CardFault::Outside { at }),
+        None => match bytes {
+            [] | [b'W' | b'L', ..] => Err(CardFault::Short { at }),
+            [_, ..] => Err(CardFault::Letter { at }),
+        },
     }
 }
 
@@ -178,8 +186,8 @@ fn count_commands(nodes: usize, columns: usize, bytes: &[u8]) -> Result<usize, C
     Ok(count)
 }
 
-// Checks a card's bytes: the number of its commands, or the first fault with the place of its first byte.
-// An unknown letter is judged first, then a command cut short, then a cell outside.
+/// Checks a card's bytes: the number of its commands, or the first fault with the place of its first byte.
+/// An unknown letter is judged first, then a command cut short, then a cell outside.
 pub fn check_card(nodes: usize, columns: usize, bytes: &[u8]) -> Result<usize, CardFault>
     ensures checked { Checked (counted_nodes nodes columns) (counted_columns columns) bytes.now result }
     ensures agrees { Agrees (counted_nodes nodes columns) (counted_columns columns) bytes.now result }
