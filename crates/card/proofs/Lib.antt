@@ -1,3 +1,3 @@
 pub mod Latest
 pub mod Uses
-pub mod Grows
+pub mod Puts

@@ -1,8 +1,9 @@
 -- A store over commands in bytes.
-use Rattle.std.specs.Prelude.{◌≡◌, ℕ, ◌+◌, ◌-◌, ◌≤◌, Bool, true, false, List, ◌++◌, length, take, drop}
+use Rattle.std.specs.Prelude.{◌≡◌, ℕ, ◌+◌, ◌-◌, ◌≤◌, Bool, true, false, List, ◌++◌, length, take, drop, Option, Some, None}
 use Rattle.store.specs.Meaning.{Meaning}
 use Rattle.store.specs.Sizes.{counted_columns, counted_nodes}
 use Rattle.commands.specs.declared.command.Command.{Command}
+use Rattle.commands.specs.declared.command.Command.TheVariants.{Write, Lose}
 use Rattle.card.specs.declared.lent.Card.{Card}
 use Rattle.commands.specs.Commands.{bytes_of, card, commands_in, TakenUp}
 
@@ -33,6 +34,22 @@ Appended before x true after =
     (lent_bytes after ≡ used_part before ++ (bytes_of x ++ drop (before.used + length (bytes_of x)) (lent_bytes before)))
     × (after.used ≡ before.used + length (bytes_of x))
 Appended before x false after = (lent_bytes after ≡ lent_bytes before) × (after.used ≡ before.used)
+
+-- What a command that is taken does to a card: it is appended, over the same memory with as many nodes and columns.
+pub record PutCommand (before : Card) (x : Command) (after : Card) : Type 0 where
+  pub memory : after.bytes.ghost_name ≡ before.bytes.ghost_name
+  pub nodes : after.nodes ≡ before.nodes
+  pub columns : after.columns ≡ before.columns
+  pub appended : Appended before x true after
+
+-- the command that leaves this in a cell
+abbrev pub command_of : ℕ → ℕ → Option ℕ → Command
+command_of j c (Some s) = Write j c s
+command_of j c None = Lose j c
+
+-- what an edit that is taken does to a card
+abbrev pub Edited : Card → ℕ → ℕ → Option ℕ → Card → Type 0
+Edited before j c v after = PutCommand before (command_of j c v) after
 
 -- A later state of a card: over the same memory with as many nodes and columns, its used part begins with
 -- the earlier one, and the bytes behind its used part are as they were.

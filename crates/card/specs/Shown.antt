@@ -1,13 +1,15 @@
--- That every card keeps the laws of a meaning, and that its later states are a frame.
+-- That every card keeps the laws of a meaning, that an edit changes one cell, and that later states are a frame.
 use Rattle.std.specs.Prelude.{◌≡◌, ℕ, ◌+◌, ◌-◌, ◌<◌, ◌≤◌, Bool, true, false, cond, ◌&&◌, ltb, List, [], ◌∷◌, take, drop, Some, None, Option, ◌==◌, nat_lt, refl}
-use Rattle.std.proofs.Common.{sym, ap, ◌∙◌, arith}
+use Rattle.std.proofs.Common.{subst, length, sym, ap, ◌∙◌, arith}
 use Rattle.std.proofs.lemmas.List.{take-take, drop-drop}
 use Rattle.std.proofs.lemmas.Bool.{and_parts, and_from, eqb-true, ltb-true}
-use Rattle.store.specs.Meaning.{Lawful, Frames}
+use Rattle.store.specs.Meaning.{Lawful, Changed, Edits, Frames, Framed, IsCell, allowed}
 use Rattle.commands.specs.declared.command.Command.{Command}
 use Rattle.card.specs.declared.lent.Card.{Card}
-use Rattle.commands.specs.Commands.{value_of, node_of, column_of, two_bytes, is_inside, all_inside, is_on, later, latest, left_by}
-use Rattle.card.specs.Cards.{meaning_of, lent_bytes, commands_of, Later}
+use Rattle.commands.specs.declared.command.Command.TheVariants.{Write, Lose}
+use Rattle.commands.specs.Commands.{bytes_of, value_of, node_of, column_of, TwoBytes, two_bytes, is_inside, all_inside, is_on, later, latest, left_by}
+use Rattle.card.specs.Cards.{meaning_of, lent_bytes, commands_of, command_of, PutCommand, Edited, Later}
+use Rattle.card.specs.Grows.{allowed_parts, changed_grown, kept_grown, untouched_grown}
 
 -- a command on the cell (j, c), which is inside, and what it leaves there
 record On (nodes columns j c : ℕ) (x : Command) : Type 0 where
@@ -68,6 +70,34 @@ card_lawful k = record {
   outside = λ j c h. outside_none k.nodes k.columns j c (latest (commands_of k) j c) (latest_on k.nodes k.columns j c (commands_of k) k.inside) h;
   symbols = λ j c v e. small k.nodes k.columns j c v (latest (commands_of k) j c) (latest_on k.nodes k.columns j c (commands_of k) k.inside) e;
 }
+
+-- a command that is put behind the others changes its cell alone
+put_means : (old new : Card) (x : Command) → allowed (meaning_of old) (node_of x) (column_of x) ≡ true → TwoBytes (value_of x) → PutCommand old x new
+    → Changed (meaning_of old) (node_of x) (column_of x) (value_of x) true (meaning_of new)
+put_means old new x taken two e =
+    let p = allowed_parts old (node_of x) (column_of x) taken in
+    changed_grown old.used old.nodes old.columns (lent_bytes old) new.used new.nodes new.columns (lent_bytes new) x e.appended.1 e.nodes e.columns e.appended.0 p.2
+    (p.0, p.1, two) old.whole
+
+-- an edit of a card changes one cell of what it means
+pub card_edits : Edits meaning_of Edited
+card_edits old new j c (Some s) cell taken e = put_means old new (Write j c s) taken cell e
+card_edits old new j c None cell taken e = put_means old new (Lose j c) taken tt e
+
+-- an edit of a card makes a later state of it
+put_later : (old new : Card) (x : Command) → PutCommand old x new → Later old new
+put_later old new x e = record {
+  lent = e.memory;
+  nodes = e.nodes;
+  columns = e.columns;
+  longer = let u = e.appended.1 in omega arith;
+  kept = kept_grown (lent_bytes old) (lent_bytes new) old.used x e.appended.0 old.room;
+  untouched = subst (λ (n : ℕ). drop n (lent_bytes new) ≡ drop n (lent_bytes old)) (sym e.appended.1)
+      (untouched_grown (lent_bytes old) (lent_bytes new) old.used x e.appended.0 old.room);
+}
+
+pub edits_later : Framed meaning_of Edited Later
+edits_later old new j c v cell taken e = put_later old new (command_of j c v) e
 
 -- what is the same behind a place is the same behind a later one
 drop_same : (m n : ℕ) (xs ys : List ℕ) → m ≤ n → drop m xs ≡ drop m ys → drop n xs ≡ drop n ys

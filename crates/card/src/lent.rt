@@ -1,10 +1,10 @@
-// The record of a card.
+//! The record of a card.
 ghost use Rattle.std.specs.Prelude.{◌≡◌, ◌≤◌, true, length, take};
 ghost use Rattle.store.specs.Sizes.{counted_columns, counted_nodes};
 ghost use Rattle.commands.specs.Commands.{all_bytes, all_inside, commands_in};
 
-// A store over bytes that its owner lends. The first `used` of them are whole commands on cells inside,
-// and the rest is free. The nodes and the columns are as a store counts them.
+/// A store over bytes that its owner lends. The first `used` of them are whole commands on cells inside,
+/// and the rest is free. The nodes and the columns are as a store counts them.
 #[derive(Drop)]
 pub struct Card<'a> {
     pub(crate) bytes: &'a mut [u8],

@@ -1,16 +1,16 @@
-// A store whose memory is a list of commands.
+//! A store whose memory is a list of commands.
 #![tactic(auto)]
 
-ghost use Rattle.std.specs.Prelude.{◌≡◌, true, List, [], length, Some, None};
-ghost use Rattle.store.specs.Meaning.{Changed, Blank, allowed};
+ghost use Rattle.std.specs.Prelude.{◌≡◌, ◌+◌, ◌≤◌, true, List, [], length, None, if◌then◌else◌};
+ghost use Rattle.std.specs.List.{fold};
+ghost use Rattle.store.specs.Meaning.{Blank, allowed};
 ghost use Rattle.store.specs.Sizes.{counted_columns, counted_nodes};
-ghost use Rattle.commands.specs.Commands.{all_bytes, commands_in, all_inside, cells, card, Longest, TakenUp};
+ghost use Rattle.commands.specs.Commands.{commands_in, card, is_on, value_of, Inside, Longest, TakenUp};
 ghost use Rattle.commands.specs.declared.command.Command.{Command};
-ghost use Rattle.commands.specs.declared.command.Command.TheVariants.{Write, Lose};
-ghost use Rattle.card.specs.Cards.{lent_bytes, used_part, meaning_of, Appended, Later, TakesUpAgain};
-ghost use Rattle.card.specs.Shown.{card_lawful, later_frames};
+ghost use Rattle.card.specs.Cards.{lent_bytes, used_part, meaning_of, Later, PutCommand, Edited, TakesUpAgain};
+ghost use Rattle.card.specs.Shown.{card_lawful, card_edits, later_frames, edits_later};
 
-use commands::{check_card, next_command};
+use commands::{Command, Commands, check_card};
 use store::{Store, count_columns, count_nodes};
 
 mod lent;
@@ -21,18 +21,10 @@ pub use lent::Card;
 const WIDEST: usize = 5;
 
 // What the latest command on a cell leaves there, in one walk over all commands.
-fn find_cell(nodes: usize, columns: usize, bytes: &[u8], j: usize, c: usize) -> Option<u16>
-    requires { (bytes.now ≡ all_bytes (commands_in bytes.now))
-        × (all_inside nodes columns (commands_in bytes.now) ≡ true) }
-    ensures { result ≡ cells (commands_in bytes.now) j c }
+fn find_cell(bytes: &[u8], j: usize, c: usize) -> Option<u16>
+    ensures { result ≡ fold (λ found x. if is_on x j c then value_of x else found) None (commands_in bytes.now) }
 {
-    let mut found = None;
-    let mut rest = bytes;
-    while let Ok((command, after)) = next_command(nodes, columns, bytes.len() - rest.len(), rest) {
-        found = command.leaves(j, c, found);
-        rest = after;
-    }
-    found
+    Commands::new(bytes).fold(None, |found, command| command.leaves(j, c, found))
 }
 
 // The length of the longest beginning of the bytes that is made of whole commands on cells inside.
@@ -47,7 +39,7 @@ fn good_length(nodes: usize, columns: usize, bytes: &[u8]) -> usize
 }
 
 impl<'a> Card<'a> {
-    // A card with no commands. The bytes stay as they are, and all of them are free.
+    /// A card with no commands. The bytes stay as they are, and all of them are free.
     pub fn blank(nodes: usize, columns: usize, memory: &'a mut [u8]) -> Card<'a>
         ensures means { meaning_of result
             ≡ card [] (counted_nodes nodes columns) (counted_columns columns) (length memory.old) }
@@ -63,8 +55,8 @@ impl<'a> Card<'a> {
         }
     }
 
-    // A card with the commands that the memory begins with, as far as they are whole and on cells inside.
-    // The rest of the bytes is free.
+    /// A card with the commands that the memory begins with, as far as they are whole and on cells inside.
+    /// The rest of the bytes is free.
     pub fn take_up(nodes: usize, columns: usize, memory: &'a mut [u8]) -> Card<'a>
         ensures taken { TakenUp (counted_nodes nodes columns) (counted_columns columns) memory.old result.used
             (meaning_of result) }
@@ -80,7 +72,7 @@ impl<'a> Card<'a> {
         }
     }
 
-    // The bytes of the card's commands.
+    /// The bytes of the card's commands.
     pub fn used_part(&self) -> &[u8]
         ensures part { result.now ≡ used_part self.now }
         ensures again { TakesUpAgain self.now result.now }
@@ -94,16 +86,46 @@ impl<'a> Card<'a> {
     {
         j < self.nodes && c < self.columns && self.bytes.len() - self.used >= WIDEST
     }
+
+    // Puts the bytes of a command behind the used part.
+    fn append(&mut self, x: Command)
+        requires inside { Inside self.old.nodes self.old.columns x }
+        requires room { self.old.used + 5 ≤ length (lent_bytes self.old) }
+        ensures { PutCommand self.old x self.new }
+    {
+        let at = self.used;
+        match x {
+            Command::Write {
+                node,
+                column,
+                symbol,
+            } => {
+                let [high, low] = symbol.to_be_bytes();
+                self.bytes[at..at + 5].copy_from_slice(&[b'W', node, column, high, low]);
+                self.used = at + 5;
+            }
+            Command::Lose { node, column } => {
+                self.bytes[at..at + 3].copy_from_slice(&[b'L', node, column]);
+                self.used = at + 3;
+            }
+        }
+    }
 }
 
 impl<'a> Store for Card<'a> {
     ghost meaning = { meaning_of };
 
-    ghost lawful = { card_lawful };
+    ghost edited = { Edited };
 
     ghost frame = { Later };
 
+    ghost lawful = { card_lawful };
+
+    ghost edits = { card_edits };
+
     ghost frames = { later_frames };
+
+    ghost framed = { edits_later };
 
     fn nodes(&self) -> usize {
         self.nodes
@@ -115,44 +137,26 @@ impl<'a> Store for Card<'a> {
 
     // One walk over the card's commands.
     fn cell(&self, j: usize, c: usize) -> Option<u16> {
-        find_cell(self.nodes, self.columns, self.used_part(), j, c)
+        find_cell(self.used_part(), j, c)
     }
 
     fn allowance(&self) -> usize {
         (self.bytes.len() - self.used) / WIDEST
     }
 
-    fn write(&mut self, j: usize, c: usize, s: u16) -> bool
-        ensures changed { Changed (meaning_of self.old) j c (Some s) result (meaning_of self.new) }
-        ensures framed { Later self.old self.new }
-        ensures held { Appended self.old (Write j c s) result self.new }
-    {
+    fn edit(&mut self, j: usize, c: usize, v: Option<u16>) -> bool {
         if !self.takes(j, c) {
             return false;
         }
-        let at = self.used;
-        self.bytes[at] = b'W';
-        self.bytes[at + 1] = j as u8;
-        self.bytes[at + 2] = c as u8;
-        self.bytes[at + 3] = (s / 256) as u8;
-        self.bytes[at + 4] = (s % 256) as u8;
-        self.used = at + 5;
-        true
-    }
-
-    fn lose(&mut self, j: usize, c: usize) -> bool
-        ensures changed { Changed (meaning_of self.old) j c None result (meaning_of self.new) }
-        ensures framed { Later self.old self.new }
-        ensures held { Appended self.old (Lose j c) result self.new }
-    {
-        if !self.takes(j, c) {
-            return false;
-        }
-        let at = self.used;
-        self.bytes[at] = b'L';
-        self.bytes[at + 1] = j as u8;
-        self.bytes[at + 2] = c as u8;
-        self.used = at + 3;
+        let (node, column) = (j as u8, c as u8);
+        self.append(match v {
+            Some(symbol) => Command::Write {
+                node,
+                column,
+                symbol,
+            },
+            None => Command::Lose { node, column },
+        });
         true
     }
 }

@@ -1,4 +1,4 @@
-// Works a grid and a card through the same changes, and shows where each of them ends.
+//! Works a grid and a card through the same changes, and shows where each of them ends.
 #![tactic(auto)]
 
 ghost use Rattle.std.specs.Prelude.{length, None};
@@ -14,34 +14,20 @@ use store::{Grid, Store};
 
 // Writes each cell of five nodes with four columns, loses one cell of each node, and writes one again.
 // Returns how many of the changes were taken.
-fn work<S: Store>(store: &mut S) -> u32 {
-    let mut taken = 0u32;
-    for place in 0..20usize {
-        if store.write(place / 4, place % 4, place as u16 * 3000) {
-            taken = taken.saturating_add(1);
-        }
-    }
-    for j in 0..5usize {
-        if store.lose(j, j % 4) {
-            taken = taken.saturating_add(1);
-        }
-    }
-    if store.write(1, 1, 65535) {
-        taken.saturating_add(1)
-    } else {
-        taken
-    }
+fn work<S: Store>(store: &mut S) -> usize {
+    let written = (0..20u16)
+        .filter(|i| store.write(usize::from(*i) / 4, usize::from(*i) % 4, *i * 3000))
+        .count();
+    let lost = (0..5usize).filter(|j| store.lose(*j, *j % 4)).count();
+    let again = usize::from(store.write(1, 1, 65535));
+    written + lost + again
 }
 
 // How many of the cells of five nodes with four columns two stores tell differently.
-fn differences<A: Store, B: Store>(a: &A, b: &B) -> u32 {
-    let mut count = 0u32;
-    for place in 0..20usize {
-        if a.cell(place / 4, place % 4) != b.cell(place / 4, place % 4) {
-            count = count.saturating_add(1);
-        }
-    }
-    count
+fn differences<A: Store, B: Store>(a: &A, b: &B) -> usize {
+    (0..20usize)
+        .filter(|i| a.cell(i / 4, i % 4) != b.cell(i / 4, i % 4))
+        .count()
 }
 
 // Loses one cell of any store.
@@ -114,11 +100,7 @@ fn show_grid(rt: HostRuntime) -> io::Result<()> {
 fn show_check(rt: HostRuntime, what: &str, bytes: &[u8]) -> io::Result<()> {
     match check_card(4, 3, bytes) {
         Ok(count) => println!(rt; "A card {what} has {count} commands."),
-        Err(fault) => println!(rt;
-            "A card {what} has fault {} at place {}.",
-            fault.number(),
-            fault.place()
-        ),
+        Err(fault) => println!(rt; "A card {what} has {fault}."),
     }
 }
 

@@ -1,19 +1,34 @@
--- A command appended to the used part of a card.
-use Rattle.std.proofs.Common.{◌≡◌, ℕ, suc, ◌+◌, ◌-◌, ◌<◌, ◌≤◌, true, List, [], ◌∷◌, ◌++◌, length, take, drop, set, sym, refl, ap, ◌∙◌, append_assoc, arith, length-append, length-set}
-use Rattle.std.proofs.lemmas.List.Edits.{sets-eq}
-use Rattle.std.proofs.lemmas.List.{take_at, take-set-le, drop_at, length-take-le, length-drop, flat_map_more}
+-- A command appended to the used part of a card: what the proofs in Shown stand on.
+use Rattle.std.proofs.Common.{◌≡◌, ℕ, cond, Bool, false, Some, None, Option, ◌+◌, ◌-◌, ◌<◌, ◌≤◌, true, List, [], ◌∷◌, ◌++◌, length, take, drop, sym, refl, ap, ◌∙◌, append_assoc, arith, length-append}
+use mathlib.Core.Path.{fun_ext}
+use Rattle.std.proofs.lemmas.List.{take_at, drop_at, length-take-le, length-drop, flat_map_more}
 use Rattle.std.proofs.lemmas.Bool.{and_from, and_parts}
 use Rattle.std.proofs.lemmas.Bool.Decides.{nat_tests}
-use Rattle.store.specs.Meaning.{Changed, allowed}
+use Rattle.store.specs.Meaning.{Changed, allowed, put}
 use Rattle.store.specs.Sizes.{counted_columns, counted_nodes}
 use Rattle.commands.specs.declared.command.Command.{Command}
 use Rattle.commands.specs.declared.command.Command.TheVariants.{Write, Lose}
 use Rattle.card.specs.declared.lent.Card.{Card}
-use Rattle.commands.specs.Commands.{bytes_of, all_bytes, commands_in, node_of, column_of, value_of, Inside, all_inside, is_inside, card, cells}
+use Rattle.commands.specs.Commands.{bytes_of, all_bytes, commands_in, node_of, column_of, value_of, Inside, all_inside, is_inside, card, cells, is_on, later, latest, left_by}
 use Rattle.card.specs.Cards.{lent_bytes}
 use Rattle.commands.proofs.Tests.{inside_test}
 use Rattle.commands.proofs.Reading.{reads_back}
-use Rattle.card.proofs.Latest.{cells_push}
+
+latest_push : (xs : List Command) (x : Command) (j c : ℕ) → latest (xs ++ x ∷ []) j c ≡ cond (is_on x j c) (Some x) (latest xs j c)
+latest_push [] x j c = refl
+latest_push (y ∷ xs) x j c = ap (λ (o : Option Command). later o (cond (is_on y j c) (Some y) None)) (latest_push xs x j c) ∙ over (is_on x j c)
+  where
+    over : (b : Bool) → later (cond b (Some x) (latest xs j c)) (cond (is_on y j c) (Some y) None) ≡ cond b (Some x) (later (latest xs j c) (cond (is_on y j c) (Some y) None))
+    over true = refl
+    over false = refl
+
+-- one command more changes its cell alone
+cells_push : (xs : List Command) (x : Command) → cells (xs ++ x ∷ []) ≡ put (cells xs) (node_of x) (column_of x) (value_of x)
+cells_push xs x = fun_ext λ j. fun_ext λ c. ap (λ (o : Option Command). left_by o None) (latest_push xs x j c) ∙ over j c (is_on x j c)
+  where
+    over : (j c : ℕ) (b : Bool) → left_by (cond b (Some x) (latest xs j c)) None ≡ cond b (value_of x) (left_by (latest xs j c) None)
+    over j c true = refl
+    over j c false = refl
 
 -- the facts that a card of these numbers and bytes keeps
 abbrev pub Sound : ℕ → ℕ → ℕ → List ℕ → Type 0
@@ -26,12 +41,6 @@ Sound used nodes columns bytes = record {
 
 pub sound_of : (k : Card) → Sound k.used k.nodes k.columns (lent_bytes k)
 sound_of k = record { room = k.room; whole = k.whole; inside = k.inside; shape = k.shape }
-
--- a byte put behind the used part leaves the commands
-pub sound_set : (used nodes columns : ℕ) (bytes : List ℕ) (i v : ℕ) → used ≤ i → Sound used nodes columns bytes → Sound used nodes columns (set bytes i v)
-sound_set used nodes columns bytes i v h s =
-    let e : take used (set bytes i v) ≡ take used bytes = take-set-le used bytes i v h in
-    record { room = rw length-set s.room; whole = rw e s.whole; inside = rw e s.inside; shape = s.shape }
 
 -- the bytes with a command behind the used part
 abbrev pub with_command : List ℕ → ℕ → Command → List ℕ
@@ -85,23 +94,6 @@ sound_grown used nodes columns bytes x h i s =
       shape = s.shape;
     }
 
--- three and five bytes put one after the other
-pub three_sets : (bytes : List ℕ) (u a b c : ℕ) → u + 3 ≤ length bytes
-    → set (set (set bytes u a) (u + 1) b) (u + 2) c ≡ take u bytes ++ ((a ∷ b ∷ c ∷ []) ++ drop (u + 3) bytes)
-three_sets bytes u a b c h =
-    let one : u + 1 ≡ suc u = omega arith in
-    let two : u + 2 ≡ suc (suc u) = omega arith in
-    rw (one, two) (sets-eq (a ∷ b ∷ c ∷ []) bytes u h ∙ append_assoc (take u bytes) (a ∷ b ∷ c ∷ []) (drop (u + 3) bytes))
-
-pub five_sets : (bytes : List ℕ) (u a b c d e : ℕ) → u + 5 ≤ length bytes
-    → set (set (set (set (set bytes u a) (u + 1) b) (u + 2) c) (u + 3) d) (u + 4) e ≡ take u bytes ++ ((a ∷ b ∷ c ∷ d ∷ e ∷ []) ++ drop (u + 5) bytes)
-five_sets bytes u a b c d e h =
-    let one : u + 1 ≡ suc u = omega arith in
-    let two : u + 2 ≡ suc (suc u) = omega arith in
-    let three : u + 3 ≡ suc (suc (suc u)) = omega arith in
-    let four : u + 4 ≡ suc (suc (suc (suc u))) = omega arith in
-    rw (one, two, three, four) (sets-eq (a ∷ b ∷ c ∷ d ∷ e ∷ []) bytes u h ∙ append_assoc (take u bytes) (a ∷ b ∷ c ∷ d ∷ e ∷ []) (drop (u + 5) bytes))
-
 -- a change that is taken is of a cell inside, and five bytes are free
 pub allowed_parts : (k : Card) (j c : ℕ) → allowed (card (commands_in (take k.used (lent_bytes k))) k.nodes k.columns (length (lent_bytes k) - k.used)) j c ≡ true
     → (j < k.nodes) × (c < k.columns) × (k.used + 5 ≤ length (lent_bytes k))
@@ -110,21 +102,20 @@ allowed_parts k j c h =
     (grind (arith, nat_tests), grind (arith, nat_tests), grind (arith, nat_tests))
 
 -- what the appended command does to the meaning
-pub changed_grown : (used nodes columns : ℕ) (bytes after : List ℕ) (x : Command) → after ≡ with_command bytes used x → used + 5 ≤ length bytes → Inside nodes columns x
-    → take used bytes ≡ all_bytes (commands_in (take used bytes))
+pub changed_grown : (used nodes columns : ℕ) (bytes : List ℕ) (more nodes' columns' : ℕ) (after : List ℕ) (x : Command)
+    → more ≡ used + length (bytes_of x) → nodes' ≡ nodes → columns' ≡ columns → after ≡ with_command bytes used x → used + 5 ≤ length bytes
+    → Inside nodes columns x → take used bytes ≡ all_bytes (commands_in (take used bytes))
     → Changed (card (commands_in (take used bytes)) nodes columns (length bytes - used)) (node_of x) (column_of x) (value_of x) true
-    (card (commands_in (take (used + length (bytes_of x)) after)) nodes columns (length after - (used + length (bytes_of x))))
-changed_grown used nodes columns bytes after x same h i w =
+    (card (commands_in (take more after)) nodes' columns' (length after - more))
+changed_grown used nodes columns bytes more nodes' columns' after x longer en ec same h i w =
     let g = grown_reads bytes used x (omega arith) w in
     let long : length after ≡ length bytes = ap length same ∙ length_grown bytes used x h in
     let wide = width_le x in
-    let reads : commands_in (take (used + length (bytes_of x)) after) ≡ commands_in (take used bytes) ++ x ∷ [] =
-    ap (λ (l : List ℕ). commands_in (take (used + length (bytes_of x)) l)) same ∙ g.1 in
     record {
       answer = let a = i.0 in let b = i.1 in grind (arith, nat_tests);
-      nodes = refl;
-      columns = refl;
-      cell = ap cells reads ∙ cells_push (commands_in (take used bytes)) x;
+      nodes = en;
+      columns = ec;
+      cell = rw (longer, same) (ap cells g.1 ∙ cells_push (commands_in (take used bytes)) x);
       most = omega arith;
       least = omega arith;
     }
