@@ -7,11 +7,11 @@ use Rattle.commands.specs.Commands.{bytes_of, Inside}
 use Rattle.card.specs.declared.lent.Card.{Card}
 use Rattle.card.specs.Grows.{Sound, sound_of, sound_grown, with_command}
 
-pub put_command : (k : Card) (x : Command) (ys : List ℕ) → ys ≡ bytes_of x → k.used + 5 ≤ length k.bytes.now → Inside k.nodes k.columns x
-    → Sound (k.used + length (bytes_of x)) k.nodes k.columns (put_mid k.used (k.used + length (bytes_of x) - k.used) k.bytes.now ys)
+pub put_command : (k : Card) (x : Command) (ys : List ℕ) → ys ≡ bytes_of x → k.used + 5 ≤ length k.bytes.now → Inside k.shape.nodes k.shape.columns x
+    → Sound (k.used + length (bytes_of x)) k.shape.nodes k.shape.columns (put_mid k.used (k.used + length (bytes_of x) - k.used) k.bytes.now ys)
 put_command k x ys e room inside =
     let n : k.used + length (bytes_of x) - k.used ≡ length (bytes_of x) = omega arith in
     let same : put_mid k.used (k.used + length (bytes_of x) - k.used) k.bytes.now ys ≡ with_command k.bytes.now k.used x =
     rw (n, e, drop-drop (length (bytes_of x)) k.used k.bytes.now) refl in
-    subst (λ (l : List ℕ). Sound (k.used + length (bytes_of x)) k.nodes k.columns l) (sym same)
-    (sound_grown k.used k.nodes k.columns k.bytes.now x room inside (sound_of k))
+    subst (λ (l : List ℕ). Sound (k.used + length (bytes_of x)) k.shape.nodes k.shape.columns l) (sym same)
+    (sound_grown k.used k.shape.nodes k.shape.columns k.bytes.now x room inside (sound_of k))

@@ -25,7 +25,7 @@ free_bytes k = length (lent_bytes k) - k.used
 
 -- what a card means
 abbrev pub meaning_of : Card → Meaning
-meaning_of k = card (commands_of k) k.nodes k.columns (free_bytes k)
+meaning_of k = card (commands_of k) k.shape.nodes k.shape.columns (free_bytes k)
 
 -- A command is appended where it is taken: the used part is kept, the command's bytes follow it, and the
 -- bytes behind them are untouched. Otherwise nothing changes.
@@ -38,8 +38,8 @@ Appended before x false after = (lent_bytes after ≡ lent_bytes before) × (aft
 -- What a command that is taken does to a card: it is appended, over the same memory with as many nodes and columns.
 pub record PutCommand (before : Card) (x : Command) (after : Card) : Type 0 where
   pub memory : after.bytes.ghost_name ≡ before.bytes.ghost_name
-  pub nodes : after.nodes ≡ before.nodes
-  pub columns : after.columns ≡ before.columns
+  pub nodes : after.shape.nodes ≡ before.shape.nodes
+  pub columns : after.shape.columns ≡ before.shape.columns
   pub appended : Appended before x true after
 
 -- the command that leaves this in a cell
@@ -55,19 +55,19 @@ Edited before j c v after = PutCommand before (command_of j c v) after
 -- the earlier one, and the bytes behind its used part are as they were.
 pub record Later (before after : Card) : Type 0 where
   pub lent : after.bytes.ghost_name ≡ before.bytes.ghost_name
-  pub nodes : after.nodes ≡ before.nodes
-  pub columns : after.columns ≡ before.columns
+  pub nodes : after.shape.nodes ≡ before.shape.nodes
+  pub columns : after.shape.columns ≡ before.shape.columns
   pub longer : before.used ≤ after.used
   pub kept : take before.used (lent_bytes after) ≡ used_part before
   pub untouched : drop after.used (lent_bytes after) ≡ drop after.used (lent_bytes before)
 
 -- a card's nodes, columns and cells, with no allowance
 abbrev pub spent : Card → Meaning
-spent k = record { nodes = k.nodes; columns = k.columns; cell = (meaning_of k).cell; allowance = 0 }
+spent k = record { nodes = k.shape.nodes; columns = k.shape.columns; cell = (meaning_of k).cell; allowance = 0 }
 
 -- Bytes are the used part of a card if taking them up alone, with the card's nodes and columns, uses all of
 -- them and gives the same nodes, columns and cells. Nothing is free then, so the allowance is 0.
 abbrev pub TakesUpAgain : Card → List ℕ → Type 0
 TakesUpAgain k bytes =
-    (used : ℕ) (meaning : Meaning) → TakenUp (counted_nodes k.nodes k.columns) (counted_columns k.columns) bytes used meaning
+    (used : ℕ) (meaning : Meaning) → TakenUp (counted_nodes k.shape.nodes k.shape.columns) (counted_columns k.shape.columns) bytes used meaning
     → (used ≡ length bytes) × (meaning ≡ spent k)

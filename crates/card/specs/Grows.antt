@@ -5,7 +5,6 @@ use Rattle.std.proofs.lemmas.List.{take_at, drop_at, length-take-le, length-drop
 use Rattle.std.proofs.lemmas.Bool.{and_from, and_parts}
 use Rattle.std.proofs.lemmas.Bool.Decides.{nat_tests}
 use Rattle.store.specs.Meaning.{Changed, allowed, put}
-use Rattle.store.specs.Sizes.{counted_columns, counted_nodes}
 use Rattle.commands.specs.declared.command.Command.{Command}
 use Rattle.commands.specs.declared.command.Command.TheVariants.{Write, Lose}
 use Rattle.card.specs.declared.lent.Card.{Card}
@@ -36,11 +35,10 @@ Sound used nodes columns bytes = record {
   room : used ≤ length bytes;
   whole : take used bytes ≡ all_bytes (commands_in (take used bytes));
   inside : all_inside nodes columns (commands_in (take used bytes)) ≡ true;
-  shape : (nodes ≡ counted_nodes nodes columns) × (columns ≡ counted_columns columns);
 }
 
-pub sound_of : (k : Card) → Sound k.used k.nodes k.columns (lent_bytes k)
-sound_of k = record { room = k.room; whole = k.whole; inside = k.inside; shape = k.shape }
+pub sound_of : (k : Card) → Sound k.used k.shape.nodes k.shape.columns (lent_bytes k)
+sound_of k = record { room = k.room; whole = k.whole; inside = k.inside }
 
 -- the bytes with a command behind the used part
 abbrev pub with_command : List ℕ → ℕ → Command → List ℕ
@@ -91,12 +89,11 @@ sound_grown used nodes columns bytes x h i s =
       room = omega arith;
       whole = g.0 ∙ ap all_bytes (sym g.1);
       inside = ap (all_inside nodes columns) g.1 ∙ all_inside_push nodes columns (commands_in (take used bytes)) x s.inside (inside_test nodes columns x i);
-      shape = s.shape;
     }
 
 -- a change that is taken is of a cell inside, and five bytes are free
-pub allowed_parts : (k : Card) (j c : ℕ) → allowed (card (commands_in (take k.used (lent_bytes k))) k.nodes k.columns (length (lent_bytes k) - k.used)) j c ≡ true
-    → (j < k.nodes) × (c < k.columns) × (k.used + 5 ≤ length (lent_bytes k))
+pub allowed_parts : (k : Card) (j c : ℕ) → allowed (card (commands_in (take k.used (lent_bytes k))) k.shape.nodes k.shape.columns (length (lent_bytes k) - k.used)) j c ≡ true
+    → (j < k.shape.nodes) × (c < k.shape.columns) × (k.used + 5 ≤ length (lent_bytes k))
 allowed_parts k j c h =
     let r = k.room in
     (grind (arith, nat_tests), grind (arith, nat_tests), grind (arith, nat_tests))

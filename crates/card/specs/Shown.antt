@@ -67,8 +67,8 @@ small nodes columns j c v None h e = let n : ◌≡◌ {A = ℕ} 0 1 = cc in abs
 
 pub card_lawful : (k : Card) → Lawful (meaning_of k)
 card_lawful k = record {
-  outside = λ j c h. outside_none k.nodes k.columns j c (latest (commands_of k) j c) (latest_on k.nodes k.columns j c (commands_of k) k.inside) h;
-  symbols = λ j c v e. small k.nodes k.columns j c v (latest (commands_of k) j c) (latest_on k.nodes k.columns j c (commands_of k) k.inside) e;
+  outside = λ j c h. outside_none k.shape.nodes k.shape.columns j c (latest (commands_of k) j c) (latest_on k.shape.nodes k.shape.columns j c (commands_of k) k.inside) h;
+  symbols = λ j c v e. small k.shape.nodes k.shape.columns j c v (latest (commands_of k) j c) (latest_on k.shape.nodes k.shape.columns j c (commands_of k) k.inside) e;
 }
 
 -- a command that is put behind the others changes its cell alone
@@ -76,7 +76,7 @@ put_means : (old new : Card) (x : Command) → allowed (meaning_of old) (node_of
     → Changed (meaning_of old) (node_of x) (column_of x) (value_of x) true (meaning_of new)
 put_means old new x taken two e =
     let p = allowed_parts old (node_of x) (column_of x) taken in
-    changed_grown old.used old.nodes old.columns (lent_bytes old) new.used new.nodes new.columns (lent_bytes new) x e.appended.1 e.nodes e.columns e.appended.0 p.2
+    changed_grown old.used old.shape.nodes old.shape.columns (lent_bytes old) new.used new.shape.nodes new.shape.columns (lent_bytes new) x e.appended.1 e.nodes e.columns e.appended.0 p.2
     (p.0, p.1, two) old.whole
 
 -- an edit of a card changes one cell of what it means

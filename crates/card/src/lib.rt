@@ -1,7 +1,7 @@
 //! A store whose memory is a list of commands.
 #![tactic(auto)]
 
-ghost use Rattle.std.specs.Prelude.{◌≡◌, ◌+◌, ◌≤◌, true, List, [], length, None, if◌then◌else◌};
+ghost use Rattle.std.specs.Prelude.{◌≡◌, ◌+◌, ◌≤◌, true, List, [], length, take, None, if◌then◌else◌};
 ghost use Rattle.std.specs.List.{fold};
 ghost use Rattle.store.specs.Meaning.{Blank, allowed};
 ghost use Rattle.store.specs.Sizes.{counted_columns, counted_nodes};
@@ -11,7 +11,7 @@ ghost use Rattle.card.specs.Cards.{lent_bytes, used_part, meaning_of, Later, Put
 ghost use Rattle.card.specs.Shown.{card_lawful, card_edits, later_frames, edits_later};
 
 use commands::{Command, Commands, check_card};
-use store::{Store, count_columns, count_nodes};
+use store::{Shape, Store};
 
 mod lent;
 
@@ -29,8 +29,8 @@ fn find_cell(bytes: &[u8], j: usize, c: usize) -> Option<u16>
 
 // The length of the longest beginning of the bytes that is made of whole commands on cells inside.
 fn good_length(nodes: usize, columns: usize, bytes: &[u8]) -> usize
-    ensures { (xs : List Command)
-        × Longest (counted_nodes nodes columns) (counted_columns columns) bytes.now result xs }
+    ensures { Longest (counted_nodes nodes columns) (counted_columns columns) bytes.now result
+        (commands_in (take result bytes.now)) }
 {
     match check_card(nodes, columns, bytes) {
         Ok(_) => bytes.len(),
@@ -50,8 +50,7 @@ impl<'a> Card<'a> {
         Card {
             bytes: memory,
             used: 0,
-            nodes: count_nodes(nodes, columns),
-            columns: count_columns(columns),
+            shape: Shape::counted(nodes, columns),
         }
     }
 
@@ -67,8 +66,7 @@ impl<'a> Card<'a> {
         Card {
             bytes: memory,
             used,
-            nodes: count_nodes(nodes, columns),
-            columns: count_columns(columns),
+            shape: Shape::counted(nodes, columns),
         }
     }
 
@@ -84,12 +82,12 @@ impl<'a> Card<'a> {
     fn takes(&self, j: usize, c: usize) -> bool
         ensures { result ≡ allowed (meaning_of self.now) j c }
     {
-        j < self.nodes && c < self.columns && self.bytes.len() - self.used >= WIDEST
+        self.shape.has(j, c) && self.bytes.len() - self.used >= WIDEST
     }
 
     // Puts the bytes of a command behind the used part.
     fn append(&mut self, x: Command)
-        requires inside { Inside self.old.nodes self.old.columns x }
+        requires inside { Inside self.old.shape.nodes self.old.shape.columns x }
         requires room { self.old.used + 5 ≤ length (lent_bytes self.old) }
         ensures { PutCommand self.old x self.new }
     {
@@ -128,11 +126,11 @@ impl<'a> Store for Card<'a> {
     ghost framed = { edits_later };
 
     fn nodes(&self) -> usize {
-        self.nodes
+        self.shape.nodes
     }
 
     fn columns(&self) -> usize {
-        self.columns
+        self.shape.columns
     }
 
     // One walk over the card's commands.

@@ -9,7 +9,7 @@ ghost use Rattle.commands.specs.Faults.{number, place, text, Begins, Faulty, Che
 
 use std::error::Error;
 use std::fmt;
-use store::{count_columns, count_nodes};
+use store::Shape;
 
 mod command;
 
@@ -172,14 +172,15 @@ pub fn next_command(
     }
 }
 
-// How many commands a card of so many nodes and columns has, or its first fault.
-fn count_commands(nodes: usize, columns: usize, bytes: &[u8]) -> Result<usize, CardFault>
-    ensures { Checked nodes columns bytes.now result }
+// How many commands a card of this shape has, or its first fault.
+fn count_commands(shape: Shape, bytes: &[u8]) -> Result<usize, CardFault>
+    ensures { Checked shape.nodes shape.columns bytes.now result }
 {
     let mut rest = bytes;
     let mut count = 0usize;
     while !rest.is_empty() {
-        let (_, after) = next_command(nodes, columns, bytes.len() - rest.len(), rest)?;
+        let at = bytes.len() - rest.len();
+        let (_, after) = next_command(shape.nodes, shape.columns, at, rest)?;
         rest = after;
         count += 1;
     }
@@ -192,5 +193,5 @@ pub fn check_card(nodes: usize, columns: usize, bytes: &[u8]) -> Result<usize, C
     ensures checked { Checked (counted_nodes nodes columns) (counted_columns columns) bytes.now result }
     ensures agrees { Agrees (counted_nodes nodes columns) (counted_columns columns) bytes.now result }
 {
-    count_commands(count_nodes(nodes, columns), count_columns(columns), bytes)
+    count_commands(Shape::counted(nodes, columns), bytes)
 }

@@ -26,11 +26,11 @@ numbers g = g.cells.now
 
 -- what a grid means
 abbrev pub meaning_of : Grid → Meaning
-meaning_of g = grid (numbers g) g.nodes g.columns
+meaning_of g = grid (numbers g) g.shape.nodes g.shape.columns
 
 -- the row with x in the cell of node j, column c, where that is taken, and the same row where it is not
 abbrev pub put_number : Grid → ℕ → ℕ → ℕ → Bool → List ℕ
-put_number g j c x taken = cond taken (slice_set (numbers g) (j * g.columns + c) x) (numbers g)
+put_number g j c x taken = cond taken (slice_set (numbers g) (j * g.shape.columns + c) x) (numbers g)
 
 -- the number that stands for what a cell is to hold: a symbol stands for itself
 abbrev pub number_of : Option ℕ → ℕ
@@ -41,14 +41,14 @@ number_of (Some s) = s
 -- is the one before with one number put at the place of the cell, j · columns + c.
 pub record PutNumber (before : Grid) (j c : ℕ) (v : Option ℕ) (after : Grid) : Type 0 where
   pub memory : after.cells.ghost_name ≡ before.cells.ghost_name
-  pub nodes : after.nodes ≡ before.nodes
-  pub columns : after.columns ≡ before.columns
+  pub nodes : after.shape.nodes ≡ before.shape.nodes
+  pub columns : after.shape.columns ≡ before.shape.columns
   pub row : numbers after ≡ put_number before j c (number_of v) true
 
 -- the place of cell (j, c) in the row, if the cell is inside
 abbrev pub Place : Grid → ℕ → ℕ → Option ℕ → Type 0
-Place g j c None = (nat_lt j g.nodes && nat_lt c g.columns) ≡ false
-Place g j c (Some x) = (j < g.nodes) × (c < g.columns) × (x ≡ j * g.columns + c) × (x < length (numbers g))
+Place g j c None = (nat_lt j g.shape.nodes && nat_lt c g.shape.columns) ≡ false
+Place g j c (Some x) = (j < g.shape.nodes) × (c < g.shape.columns) × (x ≡ j * g.shape.columns + c) × (x < length (numbers g))
 
 -- a number that a change may put into a cell: from 0 to 65,535, or the mark of a lost cell
 abbrev pub Markable : ℕ → Type 0
@@ -58,8 +58,8 @@ Markable x = (x ≤ 65535) ⊎ (x ≡ lost_mark)
 -- was, or it is in a cell and is from 0 to 65,535 or the mark of a lost cell.
 pub record Later (before after : Grid) : Type 0 where
   pub memory : after.cells.ghost_name ≡ before.cells.ghost_name
-  pub nodes : after.nodes ≡ before.nodes
-  pub columns : after.columns ≡ before.columns
+  pub nodes : after.shape.nodes ≡ before.shape.nodes
+  pub columns : after.shape.columns ≡ before.shape.columns
   pub room : length (numbers after) ≡ length (numbers before)
   pub kept : (x : ℕ) → (slice_index (numbers after) x ≡ slice_index (numbers before) x)
-      ⊎ ((x < before.nodes * before.columns) × Markable (slice_index (numbers after) x))
+      ⊎ ((x < before.shape.nodes * before.shape.columns) × Markable (slice_index (numbers after) x))

@@ -29,7 +29,7 @@ cut false x v e = let z : ◌≡◌ {A = ℕ} 0 1 = cc in absurd (omega arith)
 pub grid_lawful : (g : Grid) → Lawful (meaning_of g)
 grid_lawful g = record {
   outside = λ j c h. rw h;
-  symbols = λ j c v e. cut (nat_lt j g.nodes && nat_lt c g.columns) (slice_index (numbers g) (j * g.columns + c)) v e;
+  symbols = λ j c v e. cut (nat_lt j g.shape.nodes && nat_lt c g.shape.columns) (slice_index (numbers g) (j * g.shape.columns + c)) v e;
 }
 
 -- a number put into the row at the place of a cell is put into that cell alone
@@ -66,14 +66,14 @@ told_number (Some s) h = grind (arith, nat_tests)
 -- an edit of a grid changes one cell of what it means
 pub grid_edits : Edits meaning_of PutNumber
 grid_edits old new j c v cell taken e =
-    let hj : j < old.nodes = grind (arith, nat_tests) in
-    let hc : c < old.columns = grind (arith, nat_tests) in
+    let hj : j < old.shape.nodes = grind (arith, nat_tests) in
+    let hc : c < old.shape.columns = grind (arith, nat_tests) in
     record {
       answer = sym taken;
       nodes = e.nodes;
       columns = e.columns;
       cell = rw (e.row, e.nodes, e.columns)
-          (grid_put (numbers old) old.nodes old.columns j c (number_of v) old.room hj hc ∙ ap (put (meaning_of old).cell j c) (told_number v cell));
+          (grid_put (numbers old) old.shape.nodes old.shape.columns j c (number_of v) old.room hj hc ∙ ap (put (meaning_of old).cell j c) (told_number v cell));
       most = omega arith;
       least = omega arith;
     }
@@ -85,10 +85,10 @@ markable (Some s) h = inl (omega arith)
 -- an edit of a grid makes a later state of it
 pub edits_later : Framed meaning_of PutNumber Later
 edits_later old new j c v cell taken e =
-    let hj : j < old.nodes = grind (arith, nat_tests) in
-    let hc : c < old.columns = grind (arith, nat_tests) in
-    let at = j * old.columns + c in
-    let within = mul-add-lt j old.columns c old.nodes hj hc in
+    let hj : j < old.shape.nodes = grind (arith, nat_tests) in
+    let hc : c < old.shape.columns = grind (arith, nat_tests) in
+    let at = j * old.shape.columns + c in
+    let within = mul-add-lt j old.shape.columns c old.shape.nodes hj hc in
     let m = markable v cell in
     record {
       memory = e.memory;

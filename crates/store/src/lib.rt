@@ -9,8 +9,10 @@ ghost use Rattle.store.specs.Grids.{PutNumber, Later, grid, numbers, meaning_of,
 ghost use Rattle.store.specs.Shown.{grid_lawful, grid_edits, later_frames, edits_later};
 
 mod lent;
+mod shape;
 
 pub use lent::Grid;
+pub use shape::{Shape, count_columns, count_nodes};
 
 /// A store of cells. The questions change nothing and tell the meaning. `edit`, `write` and `lose` say
 /// whether the change was taken: that is so exactly where there is such a cell and the allowance is not
@@ -85,45 +87,11 @@ pub trait Store {
     ghost framed: { Framed meaning edited frame };
 }
 
-// The most nodes and the most columns that a store is made with.
-const MOST_NODES: usize = 64;
-
-const MOST_COLUMNS: usize = 11;
-
 // The number that marks a lost cell of a grid.
 const LOST: u32 = u32::MAX;
 
 // A grid's allowance, which no change spends.
 const ALLOWANCE: usize = 65535;
-
-/// The columns as a store counts them: above 11 they count as 11.
-pub fn count_columns(columns: usize) -> usize
-    ensures { result ≡ counted_columns columns }
-{
-    columns.min(MOST_COLUMNS)
-}
-
-/// The nodes as a store counts them: above 64 they count as 64, and with no columns there are none.
-pub fn count_nodes(nodes: usize, columns: usize) -> usize
-    ensures { result ≡ counted_nodes nodes columns }
-{
-    if columns == 0 {
-        0
-    } else {
-        nodes.min(MOST_NODES)
-    }
-}
-
-// The counted nodes that fit whole into memory for `room` numbers.
-fn whole_nodes(nodes: usize, columns: usize, room: usize) -> usize
-    ensures counted { result ≡ whole_nodes nodes columns room }
-    ensures fits { result * counted_columns columns ≤ room }
-{
-    if columns == 0 {
-        return 0;
-    }
-    count_nodes(nodes, columns).min(room / count_columns(columns))
-}
 
 impl<'a> Grid<'a> {
     /// A grid over memory that keeps its numbers. Nodes that do not fit whole are dropped.
@@ -133,11 +101,10 @@ impl<'a> Grid<'a> {
         ensures held { numbers result ≡ memory.old }
         ensures named { result.cells.ghost_name ≡ memory.entry.ghost_name }
     {
-        let nodes = whole_nodes(nodes, columns, memory.len());
+        let shape = Shape::fitting(nodes, columns, memory.len());
         Grid {
             cells: memory,
-            nodes,
-            columns: count_columns(columns),
+            shape,
         }
     }
 
@@ -158,8 +125,8 @@ impl<'a> Grid<'a> {
     fn place(&self, j: usize, c: usize) -> Option<usize>
         ensures { Place self.now j c result }
     {
-        if j < self.nodes && c < self.columns {
-            Some(j * self.columns + c)
+        if self.shape.has(j, c) {
+            Some(j * self.shape.columns + c)
         } else {
             None
         }
@@ -182,11 +149,11 @@ impl<'a> Store for Grid<'a> {
     ghost framed = { edits_later };
 
     fn nodes(&self) -> usize {
-        self.nodes
+        self.shape.nodes
     }
 
     fn columns(&self) -> usize {
-        self.columns
+        self.shape.columns
     }
 
     fn cell(&self, j: usize, c: usize) -> Option<u16> {

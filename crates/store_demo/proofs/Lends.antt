@@ -12,8 +12,8 @@ pub lost_in_bytes : (n w : ℕ) (before after : List ℕ) (j c : ℕ) (taken : B
     → TakenUp n w before k.used (meaning_of k) → lent_bytes k ≡ before → Changed (meaning_of k) j c None taken (meaning_of l) → Later k l
     → after ≡ lent_bytes l → LostInBytes n w before j c taken after
 lost_in_bytes n w before after j c taken k l t e h f g =
-    let nodes : l.nodes ≡ n = f.nodes ∙ ap (λ (m : Meaning). m.nodes) t.means in
-    let columns : l.columns ≡ w = f.columns ∙ ap (λ (m : Meaning). m.columns) t.means in
+    let nodes : l.shape.nodes ≡ n = f.nodes ∙ ap (λ (m : Meaning). m.nodes) t.means in
+    let columns : l.shape.columns ≡ w = f.columns ∙ ap (λ (m : Meaning). m.columns) t.means in
     let inside : all_inside n w (commands_of l) ≡ true = rw (← nodes, ← columns) l.inside in
     record {
       used = k.used;

@@ -7,18 +7,18 @@ pub returns-in_err-after : goal.returns-in_err-after
 returns-in_err-after c =
     let p = err_from_is_err_and c.from_residual.result c.from_residual.ensures.1 in
     rw (p.1, p.2)
-    (checked_fault c.args.nodes c.args.columns (length c.args.bytes.now - length c.loop-rest.rest.now) c.args.bytes.now
+    (checked_fault c.args.shape.nodes c.args.shape.columns (length c.args.bytes.now - length c.loop-rest.rest.now) c.args.bytes.now
     c.loop-rest.count c.loop-rest.rest.now _ c.loop-rest.invariant.1 (search rules) refl c.in_err-after.ensures)
 
 pub loop-rest-preserved : goal.loop-rest-preserved
 loop-rest-preserved c =
     let b = c.in_ok-after.ensures in
-    let less = begins_shorter c.args.nodes c.args.columns c.loop-rest.rest.now c.in_ok-after.after.now c.in_ok-after.field-0-0 b in (
+    let less = begins_shorter c.args.shape.nodes c.args.shape.columns c.loop-rest.rest.now c.in_ok-after.after.now c.in_ok-after.field-0-0 b in (
       omega arith,
-      walked_more c.args.nodes c.args.columns c.args.bytes.now c.loop-rest.count c.loop-rest.rest.now
+      walked_more c.args.shape.nodes c.args.shape.columns c.args.bytes.now c.loop-rest.count c.loop-rest.rest.now
           c.in_ok-after.after.now c.in_ok-after.field-0-0 c.loop-rest.invariant.1 b,
     )
 
 pub returns : goal.returns
 returns c =
-    checked_all c.args.nodes c.args.columns c.args.bytes.now c.loop-rest.count c.loop-rest.rest.now c.loop-rest.invariant.1 (search rules)
+    checked_all c.args.shape.nodes c.args.shape.columns c.args.bytes.now c.loop-rest.count c.loop-rest.rest.now c.loop-rest.invariant.1 (search rules)

@@ -1,6 +1,5 @@
-use Rattle.std.proofs.Common.{refl}
 use Rattle.card.proofs.Uses.{used_again}
 use Rattle.card.proofs.lent.Card.used_part.Goals as goal
 
-pub returns : goal.returns
-returns c = record { part = refl; again = used_again c.args.self.now }
+pub returns-clause-again : goal.returns-clause-again
+returns-clause-again c = used_again c.args.self.now
