@@ -2,7 +2,6 @@
 use Rattle.std.proofs.Common.{◌≡◌, ℕ, cond, Bool, false, Some, None, Option, ◌+◌, ◌-◌, ◌<◌, ◌≤◌, true, List, [], ◌∷◌, ◌++◌, length, take, drop, sym, refl, ap, ◌∙◌, append_assoc, arith, length-append}
 use mathlib.Core.Path.{fun_ext}
 use Rattle.std.proofs.lemmas.List.{take_at, drop_at, length-take-le, length-drop, flat_map_more}
-use Rattle.std.proofs.lemmas.Bool.{and_from, and_parts}
 use Rattle.std.proofs.lemmas.Bool.Decides.{nat_tests}
 use Rattle.store.specs.Meaning.{Changed, allowed, put}
 use Rattle.commands.specs.declared.command.Command.{Command}
@@ -63,10 +62,10 @@ grown_reads bytes used x h w =
 
 all_inside_push : (nodes columns : ℕ) (xs : List Command) (x : Command) → all_inside nodes columns xs ≡ true → is_inside nodes columns x ≡ true
     → all_inside nodes columns (xs ++ x ∷ []) ≡ true
-all_inside_push nodes columns [] x h p = and_from (is_inside nodes columns x) true p refl
+all_inside_push nodes columns [] x h p = grind (arith, nat_tests)
 all_inside_push nodes columns (y ∷ xs) x h p =
-    let q = and_parts (is_inside nodes columns y) (all_inside nodes columns xs) h in
-    and_from (is_inside nodes columns y) (all_inside nodes columns (xs ++ x ∷ [])) q.0 (all_inside_push nodes columns xs x q.1 p)
+    let more = all_inside_push nodes columns xs x (grind (arith, nat_tests)) p in
+    grind (arith, nat_tests)
 
 width_le : (x : Command) → (length (bytes_of x) ≤ 5) × (3 ≤ length (bytes_of x))
 width_le (Write j c s) = (omega arith, omega arith)

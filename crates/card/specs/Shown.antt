@@ -1,74 +1,46 @@
 -- That every card keeps the laws of a meaning, that an edit changes one cell, and that later states are a frame.
-use Rattle.std.specs.Prelude.{◌≡◌, ℕ, ◌+◌, ◌-◌, ◌<◌, ◌≤◌, Bool, true, false, cond, ◌&&◌, ltb, List, [], ◌∷◌, take, drop, Some, None, Option, ◌==◌, nat_lt, refl}
-use Rattle.std.proofs.Common.{subst, length, sym, ap, ◌∙◌, arith}
+use Rattle.std.specs.Prelude.{◌≡◌, ℕ, ◌+◌, ◌-◌, ◌<◌, ◌≤◌, Bool, true, false, cond, ◌&&◌, List, [], ◌∷◌, take, drop, Some, None, Option, nat_lt, refl}
+use Rattle.std.proofs.Common.{subst, sym, ap, ◌∙◌, arith}
 use Rattle.std.proofs.lemmas.List.{take-take, drop-drop}
-use Rattle.std.proofs.lemmas.Bool.{and_parts, and_from, eqb-true, ltb-true}
-use Rattle.store.specs.Meaning.{Lawful, Changed, Edits, Frames, Framed, IsCell, allowed}
+use Rattle.std.proofs.lemmas.Bool.Decides.{nat_tests}
+use Rattle.store.specs.Meaning.{Lawful, Changed, Edits, Frames, Framed, allowed}
 use Rattle.commands.specs.declared.command.Command.{Command}
 use Rattle.card.specs.declared.lent.Card.{Card}
 use Rattle.commands.specs.declared.command.Command.TheVariants.{Write, Lose}
-use Rattle.commands.specs.Commands.{bytes_of, value_of, node_of, column_of, TwoBytes, two_bytes, is_inside, all_inside, is_on, later, latest, left_by}
+use Rattle.commands.specs.Commands.{value_of, node_of, column_of, TwoBytes, is_inside, all_inside, is_on, later, latest, left_by, cells}
 use Rattle.card.specs.Cards.{meaning_of, lent_bytes, commands_of, command_of, PutCommand, Edited, Later}
 use Rattle.card.specs.Grows.{allowed_parts, changed_grown, kept_grown, untouched_grown}
 
--- a command on the cell (j, c), which is inside, and what it leaves there
-record On (nodes columns j c : ℕ) (x : Command) : Type 0 where
-  node : ltb j nodes ≡ true
-  column : ltb c columns ≡ true
-  value : two_bytes (value_of x) ≡ true
+-- no command is on a cell outside
+latest_outside : (nodes columns j c : ℕ) (xs : List Command) → all_inside nodes columns xs ≡ true
+    → (nat_lt j nodes && nat_lt c columns) ≡ false → latest xs j c ≡ None
+latest_outside nodes columns j c [] h o = refl
+latest_outside nodes columns j c (x ∷ xs) h o =
+    let before = latest_outside nodes columns j c xs (grind (arith, nat_tests)) o in
+    let off : is_on x j c ≡ false = grind (arith, nat_tests) in
+    rw (before, off) refl
 
-on_from : (nodes columns j c : ℕ) (x : Command) → is_inside nodes columns x ≡ true → is_on x j c ≡ true → On nodes columns j c x
-on_from nodes columns j c x h o =
-    let p = and_parts (nat_lt (node_of x) nodes) (nat_lt (column_of x) columns && two_bytes (value_of x)) h in
-    let q = and_parts (nat_lt (column_of x) columns) (two_bytes (value_of x)) p.1 in
-    let e = and_parts (j == node_of x) (c == column_of x) o in
-    record {
-      node = rw (eqb-true j (node_of x) e.0) p.0;
-      column = rw (eqb-true c (column_of x) e.1) q.0;
-      value = q.1;
-    }
+-- a command on a cell inside leaves no number above 65,535
+value_small : (nodes columns v : ℕ) (x : Command) → is_inside nodes columns x ≡ true → value_of x ≡ Some v → v < 65536
+value_small nodes columns v (Write j c s) h e = grind (arith, nat_tests)
+value_small nodes columns v (Lose j c) h e = grind (arith, nat_tests)
 
--- the latest command on a cell is among those of the list
-abbrev OnOf : ℕ → ℕ → ℕ → ℕ → Option Command → Type 0
-OnOf nodes columns j c (Some x) = On nodes columns j c x
-OnOf nodes columns j c None = Unit {0}
+later_small : (nodes columns v : ℕ) (y : Option Command) (x : Command) (on : Bool) → is_inside nodes columns x ≡ true
+    → (left_by y None ≡ Some v → v < 65536) → left_by (later y (cond on (Some x) None)) None ≡ Some v → v < 65536
+later_small nodes columns v (Some y) x on h before e = before e
+later_small nodes columns v None x true h before e = value_small nodes columns v x h e
+later_small nodes columns v None x false h before e = before e
 
-later_on : (nodes columns j c : ℕ) (y x : Option Command) → OnOf nodes columns j c y → OnOf nodes columns j c x → OnOf nodes columns j c (later y x)
-later_on nodes columns j c (Some y) x p q = p
-later_on nodes columns j c None x p q = q
-
-found_on : (nodes columns j c : ℕ) (x : Command) (b : Bool) → is_inside nodes columns x ≡ true → is_on x j c ≡ b
-    → OnOf nodes columns j c (cond b (Some x) None)
-found_on nodes columns j c x true h o = on_from nodes columns j c x h o
-found_on nodes columns j c x false h o = tt
-
-latest_on : (nodes columns j c : ℕ) (xs : List Command) → all_inside nodes columns xs ≡ true → OnOf nodes columns j c (latest xs j c)
-latest_on nodes columns j c [] h = tt
-latest_on nodes columns j c (x ∷ xs) h =
-    let p = and_parts (is_inside nodes columns x) (all_inside nodes columns xs) h in
-    later_on nodes columns j c (latest xs j c) (cond (is_on x j c) (Some x) None)
-    (latest_on nodes columns j c xs p.1) (found_on nodes columns j c x (is_on x j c) p.0 refl)
-
-outside_none : (nodes columns j c : ℕ) (o : Option Command) → OnOf nodes columns j c o
-    → (nat_lt j nodes && nat_lt c columns) ≡ false → left_by o None ≡ None
-outside_none nodes columns j c (Some x) h e =
-    let z : true ≡ false = sym (and_from (nat_lt j nodes) (nat_lt c columns) h.node h.column) ∙ e in
-    let n : ◌≡◌ {A = ℕ} 0 1 = cc in
-    absurd (omega arith)
-outside_none nodes columns j c None h e = refl
-
-two_bytes_lt : (o : Option ℕ) (v : ℕ) → two_bytes o ≡ true → o ≡ Some v → v < 65536
-two_bytes_lt (Some s) v h e = let same : s ≡ v = cc in omega (arith, ltb-true s 65536 h)
-two_bytes_lt None v h e = let n : ◌≡◌ {A = ℕ} 0 1 = cc in absurd (omega arith)
-
-small : (nodes columns j c v : ℕ) (o : Option Command) → OnOf nodes columns j c o → left_by o None ≡ Some v → v < 65536
-small nodes columns j c v (Some x) h e = two_bytes_lt (value_of x) v h.value e
-small nodes columns j c v None h e = let n : ◌≡◌ {A = ℕ} 0 1 = cc in absurd (omega arith)
+small : (nodes columns j c v : ℕ) (xs : List Command) → all_inside nodes columns xs ≡ true → cells xs j c ≡ Some v → v < 65536
+small nodes columns j c v [] h e = grind (arith, nat_tests)
+small nodes columns j c v (x ∷ xs) h e =
+    later_small nodes columns v (latest xs j c) x (is_on x j c) (grind (arith, nat_tests))
+    (small nodes columns j c v xs (grind (arith, nat_tests))) e
 
 pub card_lawful : (k : Card) → Lawful (meaning_of k)
 card_lawful k = record {
-  outside = λ j c h. outside_none k.shape.nodes k.shape.columns j c (latest (commands_of k) j c) (latest_on k.shape.nodes k.shape.columns j c (commands_of k) k.inside) h;
-  symbols = λ j c v e. small k.shape.nodes k.shape.columns j c v (latest (commands_of k) j c) (latest_on k.shape.nodes k.shape.columns j c (commands_of k) k.inside) e;
+  outside = λ j c h. ap (λ (o : Option Command). left_by o None) (latest_outside k.shape.nodes k.shape.columns j c (commands_of k) k.inside h);
+  symbols = λ j c v e. small k.shape.nodes k.shape.columns j c v (commands_of k) k.inside e;
 }
 
 -- a command that is put behind the others changes its cell alone

@@ -1,13 +1,13 @@
 -- A walk over the commands of a card, and where it ends.
-use Rattle.std.proofs.Common.{◌≡◌, ℕ, ◌+◌, ◌-◌, ◌<◌, ◌≤◌, List, [], ◌∷◌, ◌++◌, length, get_or, take, Ok, Err, Result, sym, refl, ap, ◌∙◌, subst, inl, inr, append_assoc, arith, length-append}
-use Rattle.std.proofs.lemmas.List.{flat_map_more, length_push, length-take-le}
+use Rattle.std.proofs.Common.{◌≡◌, ℕ, ◌+◌, ◌-◌, ◌<◌, ◌≤◌, List, [], ◌∷◌, ◌++◌, length, get_or, take, Err, sym, ap, ◌∙◌, subst, inl, inr, append_assoc, arith, length-append}
+use Rattle.std.proofs.lemmas.List.{flat_map_more, length_push}
 use Rattle.std.specs.List.{AllByRecursion}
 use Rattle.commands.specs.declared.command.Command.{Command}
 use Rattle.commands.specs.declared.command.Command.TheVariants.{Write, Lose}
 use Rattle.commands.specs.declared.command.CardFault.{CardFault}
 use Rattle.commands.specs.declared.command.CardFault.TheVariants.{Letter, Short, Outside}
-use Rattle.commands.specs.Commands.{bytes_of, all_bytes, commands_in, Inside, Holds, Longest}
-use Rattle.commands.specs.Faults.{Faulty, place, Begins, Checked, Agrees}
+use Rattle.commands.specs.Commands.{bytes_of, all_bytes, commands_in, Inside, Holds}
+use Rattle.commands.specs.Faults.{Faulty, place, Begins, Checked}
 use Rattle.commands.proofs.Reading.{command_same, reads_back, Stuck, longest}
 
 -- Walked over `count` commands on cells inside, the bytes `rest` are left.
@@ -16,9 +16,6 @@ pub record Walked (nodes columns : ℕ) (bytes : List ℕ) (count : ℕ) (rest :
   pub front : bytes ≡ all_bytes commands ++ rest
   pub inside : AllByRecursion (Inside nodes columns) commands
   pub counted : count ≡ length commands
-
-pub walked_none : (nodes columns : ℕ) (bytes : List ℕ) → Walked nodes columns bytes 0 bytes
-walked_none nodes columns bytes = record { commands = []; front = refl; inside = tt; counted = refl }
 
 all_push : {A : Type 0} (P : A → Type 0) (xs : List A) (y : A) → AllByRecursion P xs → P y → AllByRecursion P (xs ++ y ∷ [])
 all_push P [] y h p = (p, tt)
@@ -71,16 +68,6 @@ pub empty_stuck : (nodes columns : ℕ) (bytes : List ℕ) → length bytes ≡ 
 empty_stuck nodes columns bytes n (Write j c s) rest i e = let w = front_write j c s bytes rest e in omega arith
 empty_stuck nodes columns bytes n (Lose j c) rest i e = let w = front_lose j c bytes rest e in omega arith
 
--- a walk that leaves nothing has counted all commands
-pub checked_all : (nodes columns : ℕ) (bytes : List ℕ) (count : ℕ) (rest : List ℕ)
-    → Walked nodes columns bytes count rest → length rest ≡ 0 → Checked nodes columns bytes (Ok count)
-checked_all nodes columns bytes count rest w n =
-    let p = walked_place nodes columns bytes count rest w in (
-      w.commands,
-      longest nodes columns bytes rest w.commands (length bytes) w.front (omega arith) w.inside (empty_stuck nodes columns rest n),
-      w.counted,
-    )
-
 -- a walk that stops at a fault has the fault's place behind it
 pub checked_fault : (nodes columns at : ℕ) (bytes : List ℕ) (count : ℕ) (rest : List ℕ) (f : CardFault)
     → Walked nodes columns bytes count rest → 0 < length rest → at ≡ length bytes - length rest → Faulty nodes columns at rest f
@@ -104,22 +91,3 @@ begins_shorter nodes columns bytes rest (Lose j c) b = rw b.front (omega arith)
 -- the commands of a beginning are those that its bytes are read as
 pub holds_reads : (nodes columns : ℕ) (bytes : List ℕ) (used : ℕ) (xs : List Command) → Holds nodes columns bytes used xs → commands_in (take used bytes) ≡ xs
 holds_reads nodes columns bytes used xs h = ap commands_in h.front ∙ reads_back xs
-
--- there is one longest beginning
-pub longest_same : (nodes columns : ℕ) (bytes : List ℕ) (m n : ℕ) (xs ys : List Command)
-    → Longest nodes columns bytes m xs → Longest nodes columns bytes n ys → m ≡ n
-longest_same nodes columns bytes m n xs ys p q =
-    let a = p.longest n ys q.holds in
-    let b = q.longest m xs p.holds in
-    omega arith
-
-pub check_agrees : (nodes columns : ℕ) (bytes : List ℕ) (r : Result ℕ CardFault) → Checked nodes columns bytes r → Agrees nodes columns bytes r
-check_agrees nodes columns bytes (Ok count) h used meaning t =
-    longest_same nodes columns bytes used (length bytes) t.commands h.0 t.longest h.1
-check_agrees nodes columns bytes (Err f) h used meaning t =
-    let same = longest_same nodes columns bytes (place f) used h.0 t.commands h.2 t.longest in
-    let front = ap length h.2.holds.front in
-    let long = length-take-le (place f) bytes h.2.holds.within in
-    let both = simp length-append at (ap length h.3) in
-    let some = h.4 in
-    (same, omega arith)

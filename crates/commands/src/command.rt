@@ -9,6 +9,7 @@ pub enum Command {
     Lose { node: u8, column: u8 },
 }
 
+// Each kind keeps the place: a struct of a place and a kind would be two types, and no match plainer.
 /// Why the bytes from a place on do not begin with a command. `at` is the place of the first byte.
 #[derive(Clone, Copy, Debug, PartialEq, Eq)]
 pub enum CardFault {

@@ -176,6 +176,7 @@ pub fn next_command(
 fn count_commands(shape: Shape, bytes: &[u8]) -> Result<usize, CardFault>
     ensures { Checked shape.nodes shape.columns bytes.now result }
 {
+    // a walk by `while`: an iterator of commands does not tell what is behind it, which is a fault's place
     let mut rest = bytes;
     let mut count = 0usize;
     while !rest.is_empty() {

@@ -1,35 +1,21 @@
 -- That every grid keeps the laws of a meaning, that an edit changes one cell, and that later states are a frame.
-use Rattle.std.proofs.Common.{◌≡◌, ℕ, ◌+◌, ◌*◌, ◌<◌, ◌≤◌, Bool, true, false, cond, ◌&&◌, Some, None, Option, nat_le, nat_lt, slice_index, slice_set, List, length, set, get_or, refl, sym, ap, ◌∙◌, inl, inr, arith, leb-true, get_or-set_other, get_or-set_same, length-set}
+use Rattle.std.proofs.Common.{◌≡◌, ℕ, ◌+◌, ◌*◌, ◌<◌, ◌≤◌, Bool, cond, ◌&&◌, Some, None, Option, nat_lt, slice_index, slice_set, List, length, set, get_or, refl, sym, ap, ◌∙◌, inl, inr, arith, get_or-set_other, get_or-set_same, length-set}
 use mathlib.Core.Path.{fun_ext}
 use Rattle.std.proofs.lemmas.Nat.{mul-add-lt, same_from_place}
-use Rattle.std.proofs.lemmas.Bool.{cases_Bool, cases_lt, cases_eq}
+use Rattle.std.proofs.lemmas.Bool.{cases_lt, cases_eq}
 use Rattle.std.proofs.lemmas.Bool.Decides.{nat_tests}
 use Rattle.store.specs.Meaning.{Lawful, Edits, Frames, Framed, IsCell, put}
 use Rattle.store.specs.Grids.{grid, meaning_of, told, number_of, PutNumber, numbers, Markable, Later}
 use Rattle.store.specs.declared.lent.Grid.{Grid}
 
-told_small : (x v : ℕ) → told x ≡ Some v → v < 65536
-told_small x v e =
-    elim (cases_Bool (nat_le x 65535)) [
-      | inl p ↦
-          let q : x ≤ 65535 = leb-true x 65535 p in
-          let f : Some x ≡ Some v = rw p at e in
-          let h : x ≡ v = cc in
-          omega arith
-      | inr p ↦
-          let f : ◌≡◌ {A = Option ℕ} None (Some v) = rw p at e in
-          let z : ◌≡◌ {A = ℕ} 0 1 = cc in
-          absurd (omega arith)
-    ]
-
-cut : (b : Bool) (x v : ℕ) → cond b (told x) None ≡ Some v → v < 65536
-cut true x v e = told_small x v e
-cut false x v e = let z : ◌≡◌ {A = ℕ} 0 1 = cc in absurd (omega arith)
+-- a cell holds no number above 65,535
+told_small : (b : Bool) (x v : ℕ) → cond b (told x) None ≡ Some v → v < 65536
+told_small b x v e = grind (arith, nat_tests)
 
 pub grid_lawful : (g : Grid) → Lawful (meaning_of g)
 grid_lawful g = record {
   outside = λ j c h. rw h;
-  symbols = λ j c v e. cut (nat_lt j g.shape.nodes && nat_lt c g.shape.columns) (slice_index (numbers g) (j * g.shape.columns + c)) v e;
+  symbols = λ j c v e. told_small (nat_lt j g.shape.nodes && nat_lt c g.shape.columns) (slice_index (numbers g) (j * g.shape.columns + c)) v e;
 }
 
 -- a number put into the row at the place of a cell is put into that cell alone

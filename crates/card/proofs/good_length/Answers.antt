@@ -1,5 +1,4 @@
-use Rattle.std.proofs.Common.{length, rules}
-use Rattle.store.specs.Sizes.{counted_columns, counted_nodes}
+use Rattle.std.proofs.Common.{length}
 use Rattle.commands.specs.Faults.{place}
 use Rattle.card.proofs.Uses.{longest_read}
 use Rattle.card.proofs.good_length.Goals as goal

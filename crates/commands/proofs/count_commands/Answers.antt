@@ -1,6 +1,6 @@
 use Rattle.std.proofs.Common.{◌-◌, length, refl, arith, rules}
 use Rattle.std.proofs.lemmas.Result.{err_from_is_err_and}
-use Rattle.commands.proofs.Walks.{begins_shorter, walked_more, checked_all, checked_fault}
+use Rattle.commands.proofs.Walks.{begins_shorter, walked_more, checked_fault}
 use Rattle.commands.proofs.count_commands.Goals as goal
 
 pub returns-in_err-after : goal.returns-in_err-after
@@ -18,7 +18,3 @@ loop-rest-preserved c =
       walked_more c.args.shape.nodes c.args.shape.columns c.args.bytes.now c.loop-rest.count c.loop-rest.rest.now
           c.in_ok-after.after.now c.in_ok-after.field-0-0 c.loop-rest.invariant.1 b,
     )
-
-pub returns : goal.returns
-returns c =
-    checked_all c.args.shape.nodes c.args.shape.columns c.args.bytes.now c.loop-rest.count c.loop-rest.rest.now c.loop-rest.invariant.1 (search rules)
