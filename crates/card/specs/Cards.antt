@@ -31,11 +31,13 @@ meaning_of k = card (commands_of k) k.shape.nodes k.shape.columns (free_bytes k)
 -- bytes behind them are untouched. Otherwise nothing changes.
 abbrev pub Appended : Card → Command → Bool → Card → Type 0
 Appended before x true after =
-    (lent_bytes after ≡ used_part before ++ (bytes_of x ++ drop (before.used + length (bytes_of x)) (lent_bytes before)))
+    (lent_bytes after
+    ≡ used_part before ++ (bytes_of x ++ drop (before.used + length (bytes_of x)) (lent_bytes before)))
     × (after.used ≡ before.used + length (bytes_of x))
 Appended before x false after = (lent_bytes after ≡ lent_bytes before) × (after.used ≡ before.used)
 
--- What a command that is taken does to a card: it is appended, over the same memory with as many nodes and columns.
+-- What a command that is taken does to a card: it is appended, over the same memory with as many nodes
+-- and columns.
 pub record PutCommand (before : Card) (x : Command) (after : Card) : Type 0 where
   pub memory : after.bytes.ghost_name ≡ before.bytes.ghost_name
   pub nodes : after.shape.nodes ≡ before.shape.nodes
@@ -63,11 +65,13 @@ pub record Later (before after : Card) : Type 0 where
 
 -- a card's nodes, columns and cells, with no allowance
 abbrev pub spent : Card → Meaning
-spent k = record { nodes = k.shape.nodes; columns = k.shape.columns; cell = (meaning_of k).cell; allowance = 0 }
+spent k =
+    record { nodes = k.shape.nodes; columns = k.shape.columns; cell = (meaning_of k).cell; allowance = 0 }
 
 -- Bytes are the used part of a card if taking them up alone, with the card's nodes and columns, uses all of
 -- them and gives the same nodes, columns and cells. Nothing is free then, so the allowance is 0.
 abbrev pub TakesUpAgain : Card → List ℕ → Type 0
 TakesUpAgain k bytes =
-    (used : ℕ) (meaning : Meaning) → TakenUp (counted_nodes k.shape.nodes k.shape.columns) (counted_columns k.shape.columns) bytes used meaning
+    (used : ℕ) (meaning : Meaning)
+    → TakenUp (counted_nodes k.shape.nodes k.shape.columns) (counted_columns k.shape.columns) bytes used meaning
     → (used ≡ length bytes) × (meaning ≡ spent k)

@@ -1,4 +1,4 @@
--- That every card keeps the laws of a meaning, that an edit changes one cell, and that later states are a frame.
+-- Every card keeps the laws of a meaning, an edit changes one cell, and later states are a frame.
 use Rattle.std.specs.Prelude.{◌≡◌, ℕ, ◌+◌, ◌-◌, ◌<◌, ◌≤◌, Bool, true, false, cond, ◌&&◌, List, [], ◌∷◌, take, drop, Some, None, Option, nat_lt, refl}
 use Rattle.std.proofs.Common.{subst, sym, ap, ◌∙◌, arith}
 use Rattle.std.proofs.lemmas.List.{take-take, drop-drop}
@@ -21,17 +21,20 @@ latest_outside nodes columns j c (x ∷ xs) h o =
     rw (before, off) refl
 
 -- a command on a cell inside leaves no number above 65,535
-value_small : (nodes columns v : ℕ) (x : Command) → is_inside nodes columns x ≡ true → value_of x ≡ Some v → v < 65536
+value_small : (nodes columns v : ℕ) (x : Command)
+    → is_inside nodes columns x ≡ true → value_of x ≡ Some v → v < 65536
 value_small nodes columns v (Write j c s) h e = grind (arith, nat_tests)
 value_small nodes columns v (Lose j c) h e = grind (arith, nat_tests)
 
-later_small : (nodes columns v : ℕ) (y : Option Command) (x : Command) (on : Bool) → is_inside nodes columns x ≡ true
-    → (left_by y None ≡ Some v → v < 65536) → left_by (later y (cond on (Some x) None)) None ≡ Some v → v < 65536
+later_small : (nodes columns v : ℕ) (y : Option Command) (x : Command) (on : Bool)
+    → is_inside nodes columns x ≡ true → (left_by y None ≡ Some v → v < 65536)
+    → left_by (later y (cond on (Some x) None)) None ≡ Some v → v < 65536
 later_small nodes columns v (Some y) x on h before e = before e
 later_small nodes columns v None x true h before e = value_small nodes columns v x h e
 later_small nodes columns v None x false h before e = before e
 
-small : (nodes columns j c v : ℕ) (xs : List Command) → all_inside nodes columns xs ≡ true → cells xs j c ≡ Some v → v < 65536
+small : (nodes columns j c v : ℕ) (xs : List Command)
+    → all_inside nodes columns xs ≡ true → cells xs j c ≡ Some v → v < 65536
 small nodes columns j c v [] h e = grind (arith, nat_tests)
 small nodes columns j c v (x ∷ xs) h e =
     later_small nodes columns v (latest xs j c) x (is_on x j c) (grind (arith, nat_tests))
@@ -39,17 +42,21 @@ small nodes columns j c v (x ∷ xs) h e =
 
 pub card_lawful : (k : Card) → Lawful (meaning_of k)
 card_lawful k = record {
-  outside = λ j c h. ap (λ (o : Option Command). left_by o None) (latest_outside k.shape.nodes k.shape.columns j c (commands_of k) k.inside h);
+  outside = λ j c h.
+      ap (λ (o : Option Command). left_by o None)
+      (latest_outside k.shape.nodes k.shape.columns j c (commands_of k) k.inside h);
   symbols = λ j c v e. small k.shape.nodes k.shape.columns j c v (commands_of k) k.inside e;
 }
 
 -- a command that is put behind the others changes its cell alone
-put_means : (old new : Card) (x : Command) → allowed (meaning_of old) (node_of x) (column_of x) ≡ true → TwoBytes (value_of x) → PutCommand old x new
+put_means : (old new : Card) (x : Command)
+    → allowed (meaning_of old) (node_of x) (column_of x) ≡ true → TwoBytes (value_of x) → PutCommand old x new
     → Changed (meaning_of old) (node_of x) (column_of x) (value_of x) true (meaning_of new)
 put_means old new x taken two e =
     let p = allowed_parts old (node_of x) (column_of x) taken in
-    changed_grown old.used old.shape.nodes old.shape.columns (lent_bytes old) new.used new.shape.nodes new.shape.columns (lent_bytes new) x e.appended.1 e.nodes e.columns e.appended.0 p.2
-    (p.0, p.1, two) old.whole
+    changed_grown old.used old.shape.nodes old.shape.columns (lent_bytes old)
+    new.used new.shape.nodes new.shape.columns (lent_bytes new)
+    x e.appended.1 e.nodes e.columns e.appended.0 p.2 (p.0, p.1, two) old.whole
 
 -- an edit of a card changes one cell of what it means
 pub card_edits : Edits meaning_of Edited
@@ -75,17 +82,20 @@ edits_later old new j c v cell taken e = put_later old new (command_of j c v) e
 drop_same : (m n : ℕ) (xs ys : List ℕ) → m ≤ n → drop m xs ≡ drop m ys → drop n xs ≡ drop n ys
 drop_same m n xs ys h e =
     let s : m + (n - m) ≡ n = omega arith in
-    ap (λ (i : ℕ). drop i xs) (sym s) ∙ sym (drop-drop (n - m) m xs) ∙ ap (drop (n - m)) e ∙ drop-drop (n - m) m ys ∙ ap (λ (i : ℕ). drop i ys) s
+    ap (λ (i : ℕ). drop i xs) (sym s) ∙ sym (drop-drop (n - m) m xs) ∙ ap (drop (n - m)) e
+    ∙ drop-drop (n - m) m ys ∙ ap (λ (i : ℕ). drop i ys) s
 
 pub later_frames : Frames Later
 later_frames = record {
-  same = λ s. record { lent = refl; nodes = refl; columns = refl; longer = omega arith; kept = refl; untouched = refl };
+  same = λ s.
+      record { lent = refl; nodes = refl; columns = refl; longer = omega arith; kept = refl; untouched = refl };
   joined = λ r s t p q. record {
     lent = q.lent ∙ p.lent;
     nodes = q.nodes ∙ p.nodes;
     columns = q.columns ∙ p.columns;
     longer = let a = p.longer in let b = q.longer in omega arith;
-    kept = sym (take-take r.used s.used (lent_bytes t) p.longer) ∙ ap (take r.used) q.kept ∙ take-take r.used s.used (lent_bytes s) p.longer ∙ p.kept;
+    kept = sym (take-take r.used s.used (lent_bytes t) p.longer) ∙ ap (take r.used) q.kept
+        ∙ take-take r.used s.used (lent_bytes s) p.longer ∙ p.kept;
     untouched = q.untouched ∙ drop_same s.used t.used (lent_bytes s) (lent_bytes r) q.longer p.untouched;
   };
 }

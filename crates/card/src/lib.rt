@@ -1,12 +1,11 @@
 //! A store whose memory is a list of commands.
 #![tactic(auto)]
 
-ghost use Rattle.std.specs.Prelude.{◌≡◌, ◌+◌, ◌≤◌, true, List, [], length, take, None, if◌then◌else◌};
+ghost use Rattle.std.specs.Prelude.{◌≡◌, ◌+◌, ◌≤◌, [], length, take, None, if◌then◌else◌};
 ghost use Rattle.std.specs.List.{fold};
 ghost use Rattle.store.specs.Meaning.{Blank, allowed};
 ghost use Rattle.store.specs.Sizes.{counted_columns, counted_nodes};
 ghost use Rattle.commands.specs.Commands.{commands_in, card, is_on, value_of, Inside, Longest, TakenUp};
-ghost use Rattle.commands.specs.declared.command.Command.{Command};
 ghost use Rattle.card.specs.Cards.{lent_bytes, used_part, meaning_of, Later, PutCommand, Edited, TakesUpAgain};
 ghost use Rattle.card.specs.Shown.{card_lawful, card_edits, later_frames, edits_later};
 
@@ -22,7 +21,8 @@ const WIDEST: usize = 5;
 
 // What the latest command on a cell leaves there, in one walk over all commands.
 fn find_cell(bytes: &[u8], j: usize, c: usize) -> Option<u16>
-    ensures { result ≡ fold (λ found x. if is_on x j c then value_of x else found) None (commands_in bytes.now) }
+    ensures { result
+        ≡ fold (λ found x. if is_on x j c then value_of x else found) None (commands_in bytes.now) }
 {
     Commands::new(bytes).fold(None, |found, command| command.leaves(j, c, found))
 }

@@ -8,6 +8,7 @@ use Rattle.commands.specs.Commands.{commands_in, letter_w, letter_l}
 abbrev pub commands_left : Commands → List Command
 commands_left walk = commands_in walk.bytes.now
 
--- a letter that the bytes begin with asks for more bytes than there are
+-- where the bytes begin with a letter of a command, it asks for more bytes than there are
 abbrev pub CutOff : List ℕ → Type 0
-CutOff bytes = (slice_index bytes 0 ≡ letter_w → length bytes < 5) × (slice_index bytes 0 ≡ letter_l → length bytes < 3)
+CutOff bytes =
+    (slice_index bytes 0 ≡ letter_w → length bytes < 5) × (slice_index bytes 0 ≡ letter_l → length bytes < 3)

@@ -48,7 +48,8 @@ pub record PutNumber (before : Grid) (j c : ℕ) (v : Option ℕ) (after : Grid)
 -- the place of cell (j, c) in the row, if the cell is inside
 abbrev pub Place : Grid → ℕ → ℕ → Option ℕ → Type 0
 Place g j c None = (nat_lt j g.shape.nodes && nat_lt c g.shape.columns) ≡ false
-Place g j c (Some x) = (j < g.shape.nodes) × (c < g.shape.columns) × (x ≡ j * g.shape.columns + c) × (x < length (numbers g))
+Place g j c (Some x) =
+    (j < g.shape.nodes) × (c < g.shape.columns) × (x ≡ j * g.shape.columns + c) × (x < length (numbers g))
 
 -- a number that a change may put into a cell: from 0 to 65,535, or the mark of a lost cell
 abbrev pub Markable : ℕ → Type 0

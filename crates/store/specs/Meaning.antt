@@ -52,7 +52,8 @@ IsCell (Some s) = s < 65536
 -- What an edit of a cell that is allowed does to a store decides what it does to the meaning.
 abbrev pub Edits : {S : Type 0} → (S → Meaning) → (S → ℕ → ℕ → Option ℕ → S → Type 0) → Type 0
 Edits {S} meaning edited =
-    (old new : S) (j c : ℕ) (v : Option ℕ) → IsCell v → allowed (meaning old) j c ≡ true → edited old j c v new
+    (old new : S) (j c : ℕ) (v : Option ℕ)
+    → IsCell v → allowed (meaning old) j c ≡ true → edited old j c v new
     → Changed (meaning old) j c v true (meaning new)
 
 -- a relation that every value has to itself, and that two steps hand on
@@ -61,7 +62,8 @@ pub record Frames {S : Type 0} (frame : S → S → Type 0) : Type 0 where
   pub joined : (r s t : S) → frame r s → frame s t → frame r t
 
 -- An edit of a cell that is allowed is a step of the frame.
-abbrev pub Framed : {S : Type 0} → (S → Meaning) → (S → ℕ → ℕ → Option ℕ → S → Type 0) → (S → S → Type 0) → Type 0
+abbrev pub Framed : {S : Type 0} → (S → Meaning) → (S → ℕ → ℕ → Option ℕ → S → Type 0)
+    → (S → S → Type 0) → Type 0
 Framed {S} meaning edited frame =
-    (old new : S) (j c : ℕ) (v : Option ℕ) → IsCell v → allowed (meaning old) j c ≡ true → edited old j c v new
-    → frame old new
+    (old new : S) (j c : ℕ) (v : Option ℕ)
+    → IsCell v → allowed (meaning old) j c ≡ true → edited old j c v new → frame old new

@@ -1,4 +1,4 @@
--- That every grid keeps the laws of a meaning, that an edit changes one cell, and that later states are a frame.
+-- Every grid keeps the laws of a meaning, an edit changes one cell, and later states are a frame.
 use Rattle.std.proofs.Common.{◌≡◌, ℕ, ◌+◌, ◌*◌, ◌<◌, ◌≤◌, Bool, cond, ◌&&◌, Some, None, Option, nat_lt, slice_index, slice_set, List, length, set, get_or, refl, sym, ap, ◌∙◌, inl, inr, arith, get_or-set_other, get_or-set_same, length-set}
 use mathlib.Core.Path.{fun_ext}
 use Rattle.std.proofs.lemmas.Nat.{mul-add-lt, same_from_place}
@@ -15,7 +15,9 @@ told_small b x v e = grind (arith, nat_tests)
 pub grid_lawful : (g : Grid) → Lawful (meaning_of g)
 grid_lawful g = record {
   outside = λ j c h. rw h;
-  symbols = λ j c v e. told_small (nat_lt j g.shape.nodes && nat_lt c g.shape.columns) (slice_index (numbers g) (j * g.shape.columns + c)) v e;
+  symbols = λ j c v e.
+      told_small (nat_lt j g.shape.nodes && nat_lt c g.shape.columns)
+      (slice_index (numbers g) (j * g.shape.columns + c)) v e;
 }
 
 -- a number put into the row at the place of a cell is put into that cell alone
@@ -33,7 +35,8 @@ grid_put row n w j c x fits hj hc = fun_ext λ i. fun_ext λ d. go i d
               elim (cases_eq (i * w + d) (j * w + c)) [
                 | inl e ↦
                     let s = same_from_place i d j c w hd hc e in
-                    let g : get_or (set row (j * w + c) x) (i * w + d) 0 ≡ x = rw e (get_or-set_same row (j * w + c) x 0 lt) in
+                    let g : get_or (set row (j * w + c) x) (i * w + d) 0 ≡ x =
+                    rw e (get_or-set_same row (j * w + c) x 0 lt) in
                     let p = s.0 in
                     let q = s.1 in
                     grind (arith, nat_tests)
@@ -59,7 +62,8 @@ grid_edits old new j c v cell taken e =
       nodes = e.nodes;
       columns = e.columns;
       cell = rw (e.row, e.nodes, e.columns)
-          (grid_put (numbers old) old.shape.nodes old.shape.columns j c (number_of v) old.room hj hc ∙ ap (put (meaning_of old).cell j c) (told_number v cell));
+          (grid_put (numbers old) old.shape.nodes old.shape.columns j c (number_of v) old.room hj hc
+          ∙ ap (put (meaning_of old).cell j c) (told_number v cell));
       most = omega arith;
       least = omega arith;
     }

@@ -1,10 +1,10 @@
 //! Stores of cells: what every store does, and a store over a row of numbers.
 #![tactic(auto)]
 
-ghost use Rattle.std.specs.Prelude.{◌≡◌, ℕ, ◌*◌, ◌≤◌, length, replicate, Option, Some, None};
+ghost use Rattle.std.specs.Prelude.{◌≡◌, ℕ, length, replicate, Option, Some, None};
 ghost use Rattle.std.specs.Bool.{OnTrue, OnFalse};
 ghost use Rattle.store.specs.Meaning.{Meaning, Lawful, Changed, Edits, Frames, Framed, Blank, allowed};
-ghost use Rattle.store.specs.Sizes.{counted_columns, counted_nodes, whole_nodes};
+ghost use Rattle.store.specs.Sizes.{counted_columns, whole_nodes};
 ghost use Rattle.store.specs.Grids.{PutNumber, Later, grid, numbers, meaning_of, lost_mark, Place};
 ghost use Rattle.store.specs.Shown.{grid_lawful, grid_edits, later_frames, edits_later};
 

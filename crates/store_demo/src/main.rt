@@ -53,7 +53,8 @@ fn lose_in_row(nodes: usize, columns: usize, memory: &mut [u32], j: usize, c: us
 // Loses one cell of the card that lies in lent memory. The part that taking up uses is kept, and the bytes
 // behind the part that is used afterwards are untouched.
 fn lose_in_bytes(nodes: usize, columns: usize, memory: &mut [u8], j: usize, c: usize) -> bool
-    ensures { LostInBytes (counted_nodes nodes columns) (counted_columns columns) memory.old j c result memory.new }
+    ensures { LostInBytes (counted_nodes nodes columns) (counted_columns columns) memory.old
+        j c result memory.new }
 {
     let mut card = Card::take_up(nodes, columns, memory);
     lose_cell(&mut card, j, c)
