@@ -1,7 +1,7 @@
 //! The commands of a card as bytes, a walk over them, and the check of a card.
 #![tactic(auto)]
 
-ghost use Rattle.std.specs.Prelude.{◌≡◌, ◌<◌, ◌++◌, [], true, Some, if◌then◌else◌, MatchResult, MatchOption};
+ghost use Rattle.std.specs.Prelude.{◌≡◌, ◌++◌, [], true, Some, if◌then◌else◌, MatchResult, MatchOption};
 ghost use Rattle.store.specs.Sizes.{counted_columns, counted_nodes};
 ghost use Rattle.commands.specs.Commands.{node_of, column_of, value_of, is_on, bytes_of, commands_in, TwoBytes, ReadsBack, OneReading};
 ghost use Rattle.commands.specs.Walk.{commands_left, CutOff};

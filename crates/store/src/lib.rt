@@ -18,7 +18,7 @@ pub use shape::{Shape, count_columns, count_nodes};
 /// whether the change was taken: that is so exactly where there is such a cell and the allowance is not
 /// used up. A change that is not taken leaves the store itself as it is.
 ///
-/// A store of its own kind writes `edit` alone, and `write` and `lose` are made of it.
+/// An implementation writes `edit`, and `write` and `lose` are made of it.
 pub trait Store {
     /// the nodes, the columns, what each cell holds, and the allowance
     ghost meaning: { Self → Meaning };
