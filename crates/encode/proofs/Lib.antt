@@ -1,6 +1,8 @@
 pub mod Windows
 pub mod Places
 pub mod Reduction
-pub mod Points
+pub mod PointParts
 pub mod Stripes
 pub mod Memory
+pub mod Steps
+pub mod Ranges

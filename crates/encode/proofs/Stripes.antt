@@ -10,9 +10,10 @@ use Rattle.code.specs.declared.refusal.Refusal.TheVariants.{Shape, Length, Symbo
 use Rattle.code.specs.Refusals.{Least}
 use Rattle.code.specs.Positions.{ahead, behind}
 use Rattle.code.specs.Stripe.{Symbols, IsFile, StripeOf, width}
-use Rattle.code.proofs.CountedRound.{ahead_below, ahead_then_behind, behind_below}
+use Rattle.code.proofs.CountedRound.{ahead_below, behind-ahead, behind_below}
 use Rattle.encode.specs.Encoding.{Declined, cell_count}
-use Rattle.encode.specs.Scratch.{DataColumns, cell_of, coded}
+use Rattle.encode.specs.Rules.{group_sum}
+use Rattle.encode.specs.Scratch.{DataColumns, cell_of}
 
 -- where nothing is refused, the file is a file of the code
 pub accepted_file : (F : Operations) (code : Code) (file : List ℕ) (room : ℕ) → Least (Declined F code file room) None → IsFile F code file
@@ -28,13 +29,13 @@ accepted_room F code file room none = elim (cases_lt room (cell_count code)) [ i
 -- the two kinds of cells
 pub cell_data : (F : Operations) (code : Code) (x : Symbols) (v c : ℕ) → c < code.m → cell_of F code x v c ≡ x v c
 unfolding cell_of
-cell_data F code x v c l = sym (cond_below c code.m (x v c) (coded F code x v (c - code.m)) l)
+cell_data F code x v c l = sym (cond_below c code.m (x v c) (group_sum F code x (behind code.n v (c - code.m)) (c - code.m)) l)
 
-pub cell_coded : (F : Operations) (code : Code) (x : Symbols) (v i : ℕ) → cell_of F code x v (code.m + i) ≡ coded F code x v i
+pub cell_coded : (F : Operations) (code : Code) (x : Symbols) (v i : ℕ) → cell_of F code x v (code.m + i) ≡ group_sum F code x (behind code.n v i) i
 unfolding cell_of
 cell_coded F code x v i =
-    sym (cond_above (code.m + i) code.m (x v (code.m + i)) (coded F code x v (code.m + i - code.m)) (coded F code x v i) (omega arith)
-    (ap (coded F code x v) (sym (add-sub_cancel_left code.m i))))
+    let sums : ℕ → ℕ = λ i. group_sum F code x (behind code.n v i) i in
+    sym (cond_above (code.m + i) code.m (x v (code.m + i)) (sums (code.m + i - code.m)) (sums i) (omega arith) (ap sums (sym (add-sub_cancel_left code.m i))))
 
 -- the cells that follow from the data columns of a file are its stripe
 pub stripe_of : (F : Operations) → Laws F → (code : Code) (file : List ℕ) (x y : Symbols) → DataColumns F code file x
@@ -47,7 +48,7 @@ stripe_of F L code file x y whole made = record { starts = starts; symbols = sym
     plain : (v t : ℕ) → v < code.n → t < code.m → y v t ≡ x v t
     plain v t hv ht = made v t hv (omega arith) ∙ cell_data F code x v t ht
 
-    sums : (v i : ℕ) → v < code.n → i < code.a → y v (code.m + i) ≡ coded F code x v i
+    sums : (v i : ℕ) → v < code.n → i < code.a → y v (code.m + i) ≡ group_sum F code x (behind code.n v i) i
     sums v i hv hi = made v (code.m + i) hv (omega arith) ∙ cell_coded F code x v i
 
     starts : (j t : ℕ) → j < code.k → t < code.m → y j t ≡ get_or file (j * code.m + t) 0
@@ -60,7 +61,7 @@ stripe_of F L code file x y whole made = record { starts = starts; symbols = sym
           | inr h ↦
               let e : code.m + (c - code.m) ≡ c = omega arith in
               let s : y j (code.m + (c - code.m)) < F.q =
-              rw (sums j (c - code.m) hj (omega arith)) (numbers.sum_below F L code.m (λ t. F.mul (power F F.α ((c - code.m) * t)) (x (behind code.n j (c - code.m + t + 1)) t))) in
+              rw (sums j (c - code.m) hj (omega arith)) (numbers.sum_below F L code.m (λ t. F.mul (power F F.α ((c - code.m) * t)) (x (behind code.n (behind code.n j (c - code.m)) (t + 1)) t))) in
               rw e at s
         ]
 
@@ -74,10 +75,8 @@ stripe_of F L code file x y whole made = record { starts = starts; symbols = sym
         → y (ahead code.n j i) (code.m + i) ≡ sum F code.m (λ t. F.mul (power F F.α (i * t)) (y (behind code.n j (t + 1)) t))
     groups j i hj hi =
         sums (ahead code.n j i) i (ahead_below code.n j i pos) hi
+        ∙ ap (λ v. group_sum F code x v i) (behind-ahead code.n j i hj)
         ∙ numbers.sum_ext F L code.m
-        (λ t. F.mul (power F F.α (i * t)) (x (behind code.n (ahead code.n j i) (i + t + 1)) t))
+        (λ t. F.mul (power F F.α (i * t)) (x (behind code.n j (t + 1)) t))
         (λ t. F.mul (power F F.α (i * t)) (y (behind code.n j (t + 1)) t))
-        (λ t l.
-        let order : i + t + 1 ≡ i + (t + 1) = omega arith in
-        ap (λ w. F.mul (power F F.α (i * t)) (x w t)) (ap (behind code.n (ahead code.n j i)) order ∙ ahead_then_behind code.n j i (t + 1) pos)
-        ∙ ap (F.mul (power F F.α (i * t))) (sym (plain (behind code.n j (t + 1)) t (behind_below code.n j (t + 1) pos) l)))
+        (λ t l. ap (F.mul (power F F.α (i * t))) (sym (plain (behind code.n j (t + 1)) t (behind_below code.n j (t + 1) pos) l)))

@@ -1,5 +1,5 @@
 -- Whether a memory keeps the rules of the code.
-use Rattle.std.specs.Prelude.{◌≡◌, ℕ, ◌+◌, ◌*◌, ◌<◌, ◌≤◌, Bool, true, false, List, length, Ok, Err, Result}
+use Rattle.std.specs.Prelude.{◌≡◌, ℕ, ◌+◌, ◌*◌, ◌<◌, ◌≤◌, Bool, Decides, List, length, Ok, Err, Result}
 use Rattle.field.specs.Laws.{Operations, power}
 use Rattle.algebra.specs.Sums.{sum}
 use Rattle.code.specs.declared.record.Code.{Code}
@@ -8,10 +8,6 @@ use Rattle.code.specs.declared.refusal.Refusal.TheVariants.{Shape}
 use Rattle.code.specs.Positions.{ahead, behind}
 use Rattle.code.specs.Stripe.{Symbols, ColumnRule, GroupRule, parity, width}
 use Rattle.encode.specs.Encoding.{cell_count, in_memory}
-
--- the answer is true exactly if P holds
-abbrev pub Tells : Bool → Type 0 → Type 0
-Tells answer P = (answer ≡ true → P) × (answer ≡ false → P → ⊥)
 
 -- the column rule at column t
 abbrev pub ColumnSums : Operations → Code → Symbols → ℕ → Type 0
@@ -33,5 +29,5 @@ pub record KeepsRules (F : Operations) (code : Code) (x : Symbols) : Type 0 wher
 
 -- Accepted: whether the first n·(m + a) numbers of the memory keep the rules. Declined: the memory has fewer numbers.
 abbrev pub Judged : Operations → Code → List ℕ → Result Bool Refusal → Type 0
-Judged F code cells (Ok answer) = (cell_count code ≤ length cells) × Tells answer (KeepsRules F code (in_memory code cells))
+Judged F code cells (Ok answer) = (cell_count code ≤ length cells) × Decides answer (KeepsRules F code (in_memory code cells))
 Judged F code cells (Err e) = (length cells < cell_count code) × (e ≡ Shape)

@@ -1,14 +1,15 @@
 -- The data columns side by side in scratch memory, and the cells that follow from them.
-use Rattle.std.specs.Prelude.{◌≡◌, ℕ, ◌+◌, ◌-◌, ◌*◌, ◌<◌, cond, List, length, nat_lt, slice_index}
+use Rattle.std.specs.Prelude.{◌≡◌, ℕ, ◌+◌, ◌-◌, ◌*◌, ◌<◌, cond, List, [], length, nat_lt, slice_index, slice_index_or}
 use Rattle.field.specs.Laws.{Operations, power}
 use Rattle.algebra.specs.Sums.{sum}
 use Rattle.code.specs.declared.record.Code.{Code}
 use Rattle.code.specs.Positions.{behind}
 use Rattle.code.specs.Stripe.{Symbols, ColumnRule}
+use Rattle.encode.specs.Rules.{group_sum}
 
--- a column takes 64 numbers: the symbol of node j, column t is number 64·t + j
-abbrev pub in_columns : List ℕ → Symbols
-in_columns xs j t = slice_index xs (t * 64 + j)
+-- the symbol of node j, column t is number j of the t-th list
+abbrev pub in_columns : List (List ℕ) → Symbols
+in_columns columns j t = slice_index (slice_index_or columns t []) j
 
 -- the list holds the powers of u: number j is u^j
 abbrev pub PowersOf : Operations → ℕ → List ℕ → Type 0
@@ -32,14 +33,6 @@ pub record DataColumns (F : Operations) (code : Code) (file : List ℕ) (x : Sym
   pub symbols : (j t : ℕ) → j < code.n → t < code.m → x j t < F.q
   pub columns : ColumnRule F code x
 
--- the coded symbol of node v, column m + i, that follows from the data columns x by the group of node ⟨v − i⟩
-abbrev pub coded : Operations → Code → Symbols → ℕ → ℕ → ℕ
-coded F code x v i = sum F code.m (λ t. F.mul (power F F.α (i * t)) (x (behind code.n v (i + t + 1)) t))
-
--- the symbol of node v, column c: a data symbol of x, or the coded symbol
+-- The symbol of node v, column c: a data symbol of x, or in coded column i what the group of node ⟨v − i⟩ sums up to.
 unfoldable pub cell_of : Operations → Code → Symbols → ℕ → ℕ → ℕ
-cell_of F code x v c = cond (nat_lt c code.m) (x v c) (coded F code x v (c - code.m))
-
--- the weights of the groups: number 8·i + t is α^(i·t), for each coded column i and data column t
-abbrev pub GroupWeights : Operations → Code → List ℕ → Type 0
-GroupWeights F code weights = (i t : ℕ) → i < code.a → t < 8 → slice_index weights (i * 8 + t) ≡ power F F.α (i * t)
+cell_of F code x v c = cond (nat_lt c code.m) (x v c) (group_sum F code x (behind code.n v (c - code.m)) (c - code.m))

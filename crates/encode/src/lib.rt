@@ -1,19 +1,22 @@
 // The encoder: the stripe of a file, in memory that the caller lends. Nothing here allocates.
-#![tactic(auto)]
+#![tactic(auto, using(crate::proofs::Steps::steps, std::proofs::lemmas::Grind::common_steps))]
 
 ghost use Rattle.code.specs.Refusals.{Least};
 ghost use Rattle.encode.specs.Encoding.{Declined, Encoded};
 ghost use Rattle.encode.specs.Rules.{Judged};
 
 use cells::write_nodes;
-use code::{Code, Refusal};
+use code::{Code, MOST_NODES, Refusal};
 use columns::complete;
 use field::Field;
-use rules::{keeps_columns, keeps_groups};
-use sums::{all_symbols, powers};
+use points::Points;
+use rules::Cells;
+use sums::all_symbols;
 
 mod cells;
 mod columns;
+mod groups;
+mod points;
 mod rules;
 mod sums;
 mod vandermonde;
@@ -36,37 +39,27 @@ fn due<F: Field>(code: &Code, file: &[u16], room: usize) -> Option<Refusal>
     None
 }
 
-// Writes the stripe of the file into the first n·(m + a) numbers of `cells`, cell (j, c) at j·(m + a) + c, and
-// returns how many they are. The others stay as they are. Declined, all of `cells` does: with 2 if `cells` is
-// shorter, with 3 if the file's length is not k·m, with 6 if one of its numbers is no symbol of the field.
+/// Writes the stripe of the file into the first n·(m + a) numbers of `cells`, cell (j, c) at j·(m + a) + c, and
+/// returns how many they are. The others stay as they are. Declined, all of `cells` does: with 2 if `cells` is
+/// shorter, with 3 if the file's length is not k·m, with 6 if one of its numbers is no symbol of the field.
 pub fn encode<F: Field>(code: &Code, file: &[u16], cells: &mut [u16]) -> Result<usize, Refusal>
     ensures { Encoded F.ops code.now file.now cells.old result cells.new }
 {
     if let Some(e) = due::<F>(code, file, cells.len()) {
         return Err(e);
     }
-    let mut points = [0u16; 64];
-    powers::<F>(F::GENERATOR, &mut points);
-    let mut columns = [0u16; 512];
-    complete::<F>(code, file, &points, &mut columns);
-    write_nodes::<F>(code, &points, &columns, cells);
+    let points = Points::<F>::new();
+    let mut columns = [[0; MOST_NODES]; 8];
+    complete(code, file, &points, &mut columns);
+    write_nodes(code, &points, &columns, cells);
     Ok(code.nodes() * code.columns())
 }
 
-// Whether the first n·(m + a) numbers of `cells` are symbols of the field that keep the column rule and the group
-// rule. Declined with 2 if `cells` is shorter.
+/// Whether the first n·(m + a) numbers of `cells` are symbols of the field that keep the column rule and the group
+/// rule. Declined with 2 if `cells` is shorter.
 pub fn keeps_rules<F: Field>(code: &Code, cells: &[u16]) -> Result<bool, Refusal>
     ensures { Judged F.ops code.now cells.now result }
 {
-    let count = code.nodes() * code.columns();
-    if cells.len() < count {
-        return Err(Refusal::Shape);
-    }
-    if !all_symbols::<F>(&cells[0..count]) {
-        return Ok(false);
-    }
-    if !keeps_columns::<F>(code, cells) {
-        return Ok(false);
-    }
-    Ok(keeps_groups::<F>(code, cells))
+    let cells = Cells::new(code, cells)?;
+    Ok(cells.keeps_rules::<F>())
 }

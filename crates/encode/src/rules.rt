@@ -1,137 +1,130 @@
 // The rules of a stripe, tested on memory.
-ghost use Rattle.std.specs.Prelude.{◌≡◌, ℕ, ◌<◌, ◌≤◌, length, slice_index};
+ghost use Rattle.std.specs.Prelude.{◌≡◌, ℕ, ◌+◌, ◌<◌, ◌≤◌, length, slice_index, Decides, IfOk, IfErr};
+ghost use Rattle.code.specs.declared.refusal.Refusal.TheVariants.{Shape};
+ghost use Rattle.code.specs.Positions.{ahead};
 ghost use Rattle.code.specs.Stripe.{ColumnRule, GroupRule, width};
 ghost use Rattle.encode.specs.Encoding.{cell_count, in_memory};
-ghost use Rattle.encode.specs.Rules.{ColumnSums, GroupSums, Tells, group_sum};
-ghost use Rattle.encode.specs.Scratch.{GroupWeights};
+ghost use Rattle.encode.specs.Rules.{ColumnSums, GroupSums, KeepsRules, group_sum};
 ghost use Rattle.encode.specs.Systems.{column_sum};
 
-use crate::cells::{back, group_weights};
-use crate::sums::{column_sum, powers};
-use code::Code;
+use crate::columns::Column;
+use crate::groups::group_sum;
+use crate::points::Points;
+use crate::sums::{all_symbols, column_sum};
+use code::{Code, MOST_NODES, Refusal};
 use field::Field;
 
-// The number that stands at cell (j, c) of the memory.
-fn cell_at(code: &Code, cells: &[u16], j: usize, c: usize) -> u16
-    requires room { cell_count code.now ≤ length cells.now }
-    requires node { j < code.now.n }
-    requires column { c < width code.now }
-    ensures { result ≡ in_memory code.now cells.now j c }
-{
-    cells[j * code.columns() + c]
-}
-
-// Copies column c of the memory, one number for each place of `column`.
-fn read_column(code: &Code, cells: &[u16], c: usize, column: &mut [u16])
-    requires room { cell_count code.now ≤ length cells.now }
-    requires inside { c < width code.now }
-    requires nodes { length column.old ≡ code.now.n }
-    ensures { (j : ℕ) → j < code.now.n → slice_index column.new j ≡ in_memory code.now cells.now j c }
-{
-    for (j, x) in column.iter_mut().enumerate() {
-        *x = cell_at(code, cells, j, c);
-    }
+/// A memory with room for the cells of a code: cell (j, c) is number j·(m + a) + c.
+#[derive(Clone, Copy)]
+pub(crate) struct Cells<'a> {
+    code: &'a Code,
+    numbers: &'a [u16],
+    ghost room: { cell_count code.now ≤ length numbers.now },
 }
 
 // Whether the first r column sums are all 0.
 fn sums_vanish<F: Field>(r: usize, column: &[u16]) -> bool
-    ensures { Tells result ((i : ℕ) → i < r → column_sum F.ops i column.now ≡ 0) }
+    ensures { Decides result ((i : ℕ) → i < r → column_sum F.ops i column.now ≡ 0) }
 {
-    for i in 0..r {
-        if column_sum::<F>(i, column) != 0 {
-            return false;
+    (0..r).all(|i| column_sum::<F>(i, column) == 0)
+}
+
+impl<'a> Cells<'a> {
+    /// The cells of the code in this memory; refusal 2 if it is shorter.
+    pub(crate) fn new(code: &'a Code, numbers: &'a [u16]) -> Result<Cells<'a>, Refusal>
+        ensures cells { IfOk result (λ cells. (cells.code.now ≡ code.now) × (cells.numbers.now ≡ numbers.now)) }
+        ensures shape { IfErr result (λ e. (e ≡ Shape) × (length numbers.now < cell_count code.now)) }
+    {
+        if numbers.len() < code.nodes() * code.columns() {
+            return Err(Refusal::Shape);
         }
+        Ok(Cells { code, numbers })
     }
-    true
-}
 
-// Whether data column t of the memory keeps the column rule; the column is copied to `scratch`.
-fn column_vanishes<F: Field>(code: &Code, cells: &[u16], t: usize, scratch: &mut [u16]) -> bool
-    requires room { cell_count code.now ≤ length cells.now }
-    requires column { t < code.now.m }
-    requires nodes { length scratch.old ≡ code.now.n }
-    ensures { Tells result (ColumnSums F.ops code.now (in_memory code.now cells.now) t) }
-{
-    read_column(code, cells, t, scratch);
-    sums_vanish::<F>(code.parity_nodes(), scratch)
-}
+    // The number of cell (j, c).
+    fn at(&self, j: usize, c: usize) -> u16
+        requires node { j < self.now.code.now.n }
+        requires column { c < width self.now.code.now }
+        ensures { result ≡ in_memory self.now.code.now self.now.numbers.now j c }
+    {
+        self.numbers[j * self.code.columns() + c]
+    }
 
-// The same, with scratch memory of its own.
-fn keeps_column<F: Field>(code: &Code, cells: &[u16], t: usize) -> bool
-    requires room { cell_count code.now ≤ length cells.now }
-    requires column { t < code.now.m }
-    ensures { Tells result (ColumnSums F.ops code.now (in_memory code.now cells.now) t) }
-{
-    let n = code.nodes();
-    let mut column = [0u16; 64];
-    column_vanishes::<F>(code, cells, t, &mut column[0..n])
-}
-
-// Whether the memory keeps the column rule.
-pub(crate) fn keeps_columns<F: Field>(code: &Code, cells: &[u16]) -> bool
-    requires room { cell_count code.now ≤ length cells.now }
-    ensures { Tells result (ColumnRule F.ops code.now (in_memory code.now cells.now)) }
-{
-    for t in 0..code.data_columns() {
-        if !keeps_column::<F>(code, cells, t) {
-            return false;
+    // Column t, one number for each node.
+    fn column(&self, t: usize) -> Column
+        requires { t < width self.now.code.now }
+        ensures { (j : ℕ) → j < self.now.code.now.n
+            → slice_index result j ≡ in_memory self.now.code.now self.now.numbers.now j t }
+    {
+        let mut column = [0; MOST_NODES];
+        for j in 0..self.code.nodes() {
+            column[j] = self.at(j, t);
         }
+        column
     }
-    true
-}
 
-// The weighted sum of the data symbols of group j, for coded column i.
-fn group_total<F: Field>(code: &Code, weights: &[u16], cells: &[u16], j: usize, i: usize) -> u16
-    requires weights { length weights.now ≡ 24 }
-    requires weigh { GroupWeights F.ops code.now weights.now }
-    requires room { cell_count code.now ≤ length cells.now }
-    requires node { j < code.now.n }
-    requires column { i < code.now.a }
-    ensures { result ≡ group_sum F.ops code.now (in_memory code.now cells.now) j i }
-{
-    let n = code.nodes();
-    let mut sum = 0;
-    for t in 0..code.data_columns() {
-        let v = back(n, j, t + 1);
-        sum = F::sum(
-            sum,
-            F::product(weights[i * 8 + t], cell_at(code, cells, v, t)),
-        );
+    // Whether data column t keeps the column rule.
+    fn keeps_column<F: Field>(&self, t: usize) -> bool
+        requires { t < self.now.code.now.m }
+        ensures { Decides result (ColumnSums F.ops self.now.code.now
+            (in_memory self.now.code.now self.now.numbers.now) t) }
+    {
+        let column = self.column(t);
+        sums_vanish::<F>(self.code.parity_nodes(), &column[..self.code.nodes()])
     }
-    sum
-}
 
-// Whether the coded symbols of group j are what the group rule says.
-fn keeps_group<F: Field>(code: &Code, weights: &[u16], cells: &[u16], j: usize) -> bool
-    requires weights { length weights.now ≡ 24 }
-    requires weigh { GroupWeights F.ops code.now weights.now }
-    requires room { cell_count code.now ≤ length cells.now }
-    requires node { j < code.now.n }
-    ensures { Tells result (GroupSums F.ops code.now (in_memory code.now cells.now) j) }
-{
-    let m = code.data_columns();
-    for i in 0..code.coded_columns() {
-        let v = code.ahead(j, i);
-        if cell_at(code, cells, v, m + i) != group_total::<F>(code, weights, cells, j, i) {
-            return false;
-        }
+    // Whether the cells keep the column rule.
+    fn keeps_columns<F: Field>(&self) -> bool
+        ensures { Decides result (ColumnRule F.ops self.now.code.now
+            (in_memory self.now.code.now self.now.numbers.now)) }
+    {
+        (0..self.code.data_columns()).all(|t| self.keeps_column::<F>(t))
     }
-    true
-}
 
-// Whether the memory keeps the group rule.
-pub(crate) fn keeps_groups<F: Field>(code: &Code, cells: &[u16]) -> bool
-    requires room { cell_count code.now ≤ length cells.now }
-    ensures { Tells result (GroupRule F.ops code.now (in_memory code.now cells.now)) }
-{
-    let mut points = [0u16; 64];
-    powers::<F>(F::GENERATOR, &mut points);
-    let mut weights = [0u16; 24];
-    group_weights::<F>(code, &points, &mut weights);
-    for j in 0..code.nodes() {
-        if !keeps_group::<F>(code, &weights, cells, j) {
-            return false;
-        }
+    // Whether the symbol of coded column i in the group of node j is what the group rule says.
+    fn keeps_coded<F: Field>(&self, points: &Points<F>, j: usize, i: usize) -> bool
+        requires node { j < self.now.code.now.n }
+        requires column { i < self.now.code.now.a }
+        ensures { Decides result (in_memory self.now.code.now self.now.numbers.now (ahead self.now.code.now.n j i)
+            (self.now.code.now.m + i)
+            ≡ group_sum F.ops self.now.code.now (in_memory self.now.code.now self.now.numbers.now) j i) }
+    {
+        let symbol = self.at(self.code.ahead(j, i), self.code.data_columns() + i);
+        symbol == group_sum(self.code, points, |v, t| self.at(v, t), j, i)
     }
-    true
+
+    // Whether the coded symbols of the group of node j are what the group rule says.
+    fn keeps_group<F: Field>(&self, points: &Points<F>, j: usize) -> bool
+        requires { j < self.now.code.now.n }
+        ensures { Decides result (GroupSums F.ops self.now.code.now
+            (in_memory self.now.code.now self.now.numbers.now) j) }
+    {
+        (0..self.code.coded_columns()).all(|i| self.keeps_coded(points, j, i))
+    }
+
+    // Whether the cells keep the group rule.
+    fn keeps_groups<F: Field>(&self, points: &Points<F>) -> bool
+        ensures { Decides result (GroupRule F.ops self.now.code.now
+            (in_memory self.now.code.now self.now.numbers.now)) }
+    {
+        (0..self.code.nodes()).all(|j| self.keeps_group(points, j))
+    }
+
+    // Whether the numbers of the cells are symbols of the field.
+    fn all_symbols<F: Field>(&self) -> bool
+        ensures { Decides result ((j c : ℕ) → j < self.now.code.now.n → c < width self.now.code.now
+            → in_memory self.now.code.now self.now.numbers.now j c < F.ops.q) }
+    {
+        all_symbols::<F>(&self.numbers[..self.code.nodes() * self.code.columns()])
+    }
+
+    /// Whether the cells hold symbols of the field that keep the column rule and the group rule.
+    pub(crate) fn keeps_rules<F: Field>(&self) -> bool
+        ensures { Decides result (KeepsRules F.ops self.now.code.now
+            (in_memory self.now.code.now self.now.numbers.now)) }
+    {
+        self.all_symbols::<F>()
+            && self.keeps_columns::<F>()
+            && self.keeps_groups(&Points::<F>::new())
+    }
 }

@@ -11,13 +11,7 @@ pub(crate) fn all_symbols<F: Field>(xs: &[u16]) -> bool
     ensures yes { result ≡ true → AllBelow F.ops.q xs.now }
     ensures not { result ≡ false → (p : ℕ) × (p < length xs.now) × (F.ops.q ≤ slice_index xs.now p) }
 {
-    let q = F::SIZE;
-    for x in xs.iter() {
-        if u32::from(*x) >= q {
-            return false;
-        }
-    }
-    true
+    xs.iter().all(|x| u32::from(*x) < F::SIZE)
 }
 
 // Fills the slice with the powers of a symbol: number j is base^j.

@@ -1,29 +1,14 @@
-use Rattle.std.proofs.Common.{◌*◌, length, ap, ◌∙◌, ap₂, arith}
-use Rattle.field.specs.Laws.{power}
+use Rattle.std.proofs.Common.{◌*◌, length, ap₂, arith}
 use Rattle.encode.specs.Encoding.{in_memory}
 use Rattle.encode.specs.Scratch.{in_columns}
 use Rattle.encode.proofs.Stripes.{accepted_file, accepted_room, stripe_of}
 use Rattle.encode.proofs.encode.Goals as goal
 
 pub complete-requires : goal.complete-requires
-complete-requires g c =
-    let F = g.F.Field.ops in
-    record {
-      file = accepted_file F c.args.code.now c.args.file.now (length c.args.cells.now) c.in_default.ensures;
-      long = omega arith;
-      powers = λ j h. c.powers.ensures j h ∙ ap (λ a. power F a j) (c.GENERATOR.ensures ∙ g.met.F.Field.generator);
-      columns = omega arith;
-    }
+complete-requires g c = accepted_file g.F.Field.ops c.args.code.now c.args.file.now (length c.args.cells.now) c.in_default.ensures
 
 pub write_nodes-requires : goal.write_nodes-requires
-write_nodes-requires g c =
-    let F = g.F.Field.ops in
-    record {
-      long = omega arith;
-      powers = λ j h. c.powers.ensures j h ∙ ap (λ a. power F a j) (c.GENERATOR.ensures ∙ g.met.F.Field.generator);
-      columns = omega arith;
-      room = accepted_room F c.args.code.now c.args.file.now (length c.args.cells.now) c.in_default.ensures;
-    }
+write_nodes-requires g c = accepted_room g.F.Field.ops c.args.code.now c.args.file.now (length c.args.cells.now) c.in_default.ensures
 
 pub returns : goal.returns
 returns g c =

@@ -7,8 +7,8 @@ use Rattle.encode.specs.Scratch.{cell_of, in_columns}
 use Rattle.encode.proofs.Windows.{window_length, row_written, row_kept, row_end, row_next, put_after}
 use Rattle.encode.proofs.cells.write_nodes.Goals as goal
 
-pub slice_bounds-write_node-end-in-loop-v : goal.slice_bounds-write_node-end-in-loop-v
-slice_bounds-write_node-end-in-loop-v g c =
+pub slice_bounds-write_node-end : goal.slice_bounds-write_node-end
+slice_bounds-write_node-end g c =
     let v = c.loop-v.v in
     let w = width c.args.code.now in
     let same : c.columns-width.result ≡ c.args.code.now.m + c.args.code.now.a = c.columns-width.ensures in

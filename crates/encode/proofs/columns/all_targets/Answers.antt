@@ -13,19 +13,20 @@ loop-i-preserved g c =
     let k = c.args.code.now.k in
     let xs = c.loop-i.columns in
     let W = c.powers.new.out in
-    let nw : length c.powers.new.out ≡ 64 = omega (arith, c.loop-i.invariant.0) in
-    let base : get_or c.args.points.now c.loop-i.i 0 ≡ power F F.α c.loop-i.i = c.requires.powers c.loop-i.i (omega arith) in
+    let nw : length c.powers.new.out ≡ 64 = omega (arith, c.loop-i.invariant.long) in
+    let base : get_or c.args.points.now.powers c.loop-i.i 0 ≡ power F F.α c.loop-i.i = c.args.points.now.are c.loop-i.i (omega arith) in
     let weight : (j : ℕ) → j < c.args.code.now.k → get_or c.powers.new.out j 0 ≡ power F F.α (c.loop-i.i * j) =
     λ j h. c.powers.ensures j (omega arith) ∙ ap (λ b. power F b j) base ∙ sym (numbers.power-mul F L F.α j d) ∙ ap (power F F.α) (mul_comm j d) in
     let new : (t : ℕ) → t < c.args.code.now.m → in_columns c.set_targets.new.columns (c.args.code.now.k + c.loop-i.i) t ≡ target F c.args.code.now (in_columns c.args.columns.now) c.loop-i.i t =
     λ t h. c.set_targets.ensures.made t h ∙ ap (F.sub 0)
     (numbers.sum_ext F L k (λ j. F.mul (get_or W j 0) (in_columns xs j t)) (λ j. F.mul (power F F.α (d * j)) (in_columns c.args.columns.now j t))
-    (λ j l. cc (weight j l, c.loop-i.invariant.2 j t l))) in (
-      nw,
-      λ i t hi ht.
+    (λ j l. cc (weight j l, c.loop-i.invariant.kept j t l))) in
+    record {
+      long = nw;
+      made = λ i t hi ht.
           elim (cases_eq i c.loop-i.i) [
             | inl e ↦ rw e (new t ht)
-            | inr ne ↦ c.set_targets.ensures.kept (k + i) t (omega arith) (λ e. omega arith) ∙ c.loop-i.invariant.1 i t (omega arith) ht
-          ],
-      λ j t h. c.set_targets.ensures.kept j t (omega arith) (λ e. omega arith) ∙ c.loop-i.invariant.2 j t h,
-    )
+            | inr ne ↦ c.set_targets.ensures.kept (k + i) t (λ e. omega arith) ∙ c.loop-i.invariant.made i t (omega arith) ht
+          ];
+      kept = λ j t h. c.set_targets.ensures.kept j t (λ e. omega arith) ∙ c.loop-i.invariant.kept j t h;
+    }

@@ -5,6 +5,8 @@ use Rattle.encode.proofs.columns.all_targets.Given as goal
 abbrev pub invariant-loop-i : goal.invariant-loop-i
 invariant-loop-i g l =
     let F = g.F.Field.ops in
-    (length l.weights ≡ 64)
-    × ((i t : ℕ) → i < l.i → t < l.code.m → in_columns l.columns (l.code.k + i) t ≡ target F l.code (in_columns l.initial.columns) i t)
-    × ((j t : ℕ) → j < l.code.k → in_columns l.columns j t ≡ in_columns l.initial.columns j t)
+    record {
+      long : length l.weights ≡ 64;
+      made : (i t : ℕ) → i < l.i → t < l.code.m → in_columns l.columns (l.code.k + i) t ≡ target F l.code (in_columns l.initial.columns) i t;
+      kept : (j t : ℕ) → j < l.code.k → in_columns l.columns j t ≡ in_columns l.initial.columns j t;
+    }

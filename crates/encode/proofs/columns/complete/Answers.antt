@@ -5,7 +5,7 @@ use Rattle.field.specs.Laws.{power}
 use Rattle.algebra.specs.Sums.{sum}
 use Rattle.algebra.proofs.Numbers as numbers
 use Rattle.encode.specs.Scratch.{in_columns}
-use Rattle.encode.proofs.Points.{column_sum_zero}
+use Rattle.encode.proofs.PointParts.{column_sum_zero}
 use Rattle.encode.proofs.columns.complete.Goals as goal
 
 pub solve_all-requires : goal.solve_all-requires
@@ -14,12 +14,7 @@ solve_all-requires g c =
     let L = g.met.F.Field.laws in
     let k = c.args.code.now.k in
     let x = in_columns c.place_file.new.columns in
-    record {
-      long = c.requires.long;
-      powers = c.requires.powers;
-      columns = omega arith;
-      targets = λ i t hi ht. rw (c.all_targets.ensures.made i t hi ht) (L.sub_below 0 (sum F k (λ j. F.mul (power F F.α (i * j)) (x j t))));
-    }
+    λ i t hi ht. rw (c.all_targets.ensures.made i t hi ht) (L.sub_below 0 (sum F k (λ j. F.mul (power F F.α (i * j)) (x j t))))
 
 pub returns : goal.returns
 returns g c =
@@ -40,7 +35,7 @@ returns g c =
           elim (cases_lt j c.args.code.now.k) [
             | inl l ↦
                 let low : j * c.args.code.now.m + t < c.args.code.now.m * c.args.code.now.k = mul-add-lt j m t k l ht in
-                rw (starts j t l ht) (c.requires.file.symbols (j * m + t) (omega (arith, c.requires.file.long)))
+                rw (starts j t l ht) (c.requires.symbols (j * m + t) (omega (arith, c.requires.long)))
             | inr l ↦
                 let e : c.args.code.now.k + (j - c.args.code.now.k) ≡ j = omega arith in
                 rw e at (c.solve_all.ensures.below (j - k) t (omega arith) ht)

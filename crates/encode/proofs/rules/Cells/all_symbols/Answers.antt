@@ -1,0 +1,24 @@
+use Rattle.std.proofs.Common.{◌≡◌, ◌*◌, ◌≤◌, Bool, true, false, length, refl, ap₂, arith}
+use Rattle.encode.specs.Encoding.{cell_count}
+use Rattle.encode.proofs.Memory.{cells_below, numbers_below}
+use Rattle.encode.proofs.rules.Cells.all_symbols.Goals as goal
+
+not_false : (b : Bool) → (b ≡ false → ⊥) → b ≡ true
+not_false true h = refl
+not_false false h = absurd (h refl)
+
+pub returns : goal.returns
+returns g c =
+    let F = g.F.Field.ops in
+    let code = c.args.self.now.code.now in
+    let numbers = c.args.self.now.numbers.now in
+    let K = c.nodes.result * c.columns.result in
+    let count : c.nodes.result * c.columns.result ≡ cell_count c.args.self.now.code.now = ap₂ ◌*◌ c.nodes.ensures c.columns.ensures in
+    let room : c.nodes.result * c.columns.result ≤ length c.args.self.now.numbers.now = omega (arith, count, c.args.self.now.room) in (
+      λ e. cells_below F.q code numbers K count room (c.all_symbols.ensures.yes e),
+      λ all. not_false c.all_symbols.result
+          (λ e.
+          let found = c.all_symbols.ensures.not e in
+          let low = numbers_below F.q code numbers K count room all found.0 found.1 in
+          omega (arith, low, found.2)),
+    )

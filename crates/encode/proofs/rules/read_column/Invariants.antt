@@ -1,6 +1,0 @@
-use Rattle.std.proofs.Common.{◌≡◌, ℕ, ◌<◌, get_or}
-use Rattle.encode.specs.Encoding.{in_memory}
-use Rattle.encode.proofs.rules.read_column.Given as goal
-
-abbrev pub invariant-loop-j : goal.invariant-loop-j
-invariant-loop-j l = (j : ℕ) → j < l.j → get_or l.column j 0 ≡ in_memory l.code l.cells j l.c

@@ -1,0 +1,43 @@
+// The weighted sums of the groups, whatever memory the data columns stand in.
+ghost use Rattle.std.specs.Prelude.{◌≡◌, ℕ, ◌<◌, ◌≤◌};
+ghost use Rattle.code.specs.Positions.{behind};
+ghost use Rattle.code.specs.Stripe.{Symbols};
+ghost use Rattle.encode.specs.Rules.{group_sum};
+
+use crate::points::Points;
+use code::Code;
+use field::Field;
+
+/// ⟨v − s⟩, for a node v and a shift s below n.
+pub(crate) fn back(n: usize, v: usize, s: usize) -> usize
+    requires node { v < n }
+    requires shift { s < n }
+    requires bound { n ≤ 64 }
+    ensures { result ≡ behind n v s }
+{
+    if s <= v { v - s } else { v + n - s }
+}
+
+/// The sum over the data columns t of α^(i·t) · x(⟨j − t − 1⟩, t), where `symbol` answers what x is at a node and a
+/// data column. By the group rule it is the symbol of node ⟨j + i⟩, column m + i.
+pub(crate) fn group_sum<F: Field, X: Fn(usize, usize) -> u16>(
+    code: &Code,
+    points: &Points<F>,
+    symbol: X,
+    j: usize,
+    i: usize,
+) -> u16
+    requires symbols { (v t : ℕ) → v < code.now.n → t < code.now.m → X.pre symbol v t }
+    requires node { j < code.now.n }
+    requires column { i < code.now.a }
+    ensures { (x : Symbols) → ((v t r : ℕ) → v < code.now.n → t < code.now.m → X.post symbol v t r → r ≡ x v t)
+        → result ≡ group_sum F.ops code.now x j i }
+{
+    let n = code.nodes();
+    let mut sum = 0;
+    for t in 0..code.data_columns() {
+        let v = back(n, j, t + 1);
+        sum = F::sum(sum, F::product(points.powers[i * t], symbol(v, t)));
+    }
+    sum
+}
