@@ -5,13 +5,13 @@ ghost use Rattle.encode.specs.Encoding.{cell_count, in_memory};
 ghost use Rattle.encode.specs.Scratch.{cell_of, in_columns};
 
 use crate::columns::Columns;
-use crate::groups::{back, group_sum};
+use crate::groups::{Weights, back, group_sum};
 use crate::points::Points;
 use code::Code;
 use field::Field;
 
 // The symbol of node v, column c: coded column i has there the sum of the group of node ⟨v − i⟩.
-fn cell<F: Field>(code: &Code, points: &Points<F>, columns: &Columns, v: usize, c: usize) -> u16
+fn cell<F: Field>(code: &Code, weights: &Weights<F>, columns: &Columns, v: usize, c: usize) -> u16
     requires node { v < code.now.n }
     requires column { c < width code.now }
     ensures { result ≡ cell_of F.ops code.now (in_columns columns.now) v c }
@@ -22,14 +22,14 @@ fn cell<F: Field>(code: &Code, points: &Points<F>, columns: &Columns, v: usize, 
     } else {
         let i = c - m;
         let j = back(code.nodes(), v, i);
-        group_sum(code, points, |u, t| columns[t][u], j, i)
+        group_sum(code, weights, |u, t| columns[t][u], j, i)
     }
 }
 
 // Writes the cells of node v.
 fn write_node<F: Field>(
     code: &Code,
-    points: &Points<F>,
+    weights: &Weights<F>,
     columns: &Columns,
     v: usize,
     row: &mut [u16],
@@ -40,7 +40,7 @@ fn write_node<F: Field>(
         → slice_index row.new c ≡ cell_of F.ops code.now (in_columns columns.now) v c }
 {
     for (c, x) in row.iter_mut().enumerate() {
-        *x = cell(code, points, columns, v, c);
+        *x = cell(code, weights, columns, v, c);
     }
 }
 
@@ -56,10 +56,11 @@ pub(crate) fn write_nodes<F: Field>(
         → in_memory code.now cells.new v c ≡ cell_of F.ops code.now (in_columns columns.now) v c }
     ensures kept { (p : ℕ) → cell_count code.now ≤ p → slice_index cells.new p ≡ slice_index cells.old p }
 {
+    let weights = Weights::new(points);
     let width = code.columns();
     // By index: after `chunks_exact_mut` a proof knows the length of `cells` alone.
     for v in 0..code.nodes() {
         let at = v * width;
-        write_node(code, points, columns, v, &mut cells[at..at + width]);
+        write_node(code, &weights, columns, v, &mut cells[at..at + width]);
     }
 }

@@ -3,10 +3,36 @@ ghost use Rattle.std.specs.Prelude.{◌≡◌, ℕ, ◌<◌, ◌≤◌};
 ghost use Rattle.code.specs.Positions.{behind};
 ghost use Rattle.code.specs.Stripe.{Symbols};
 ghost use Rattle.encode.specs.Rules.{group_sum};
+ghost use Rattle.encode.specs.Scratch.{GroupWeights};
 
 use crate::points::Points;
+use crate::sums::powers;
 use code::Code;
 use field::Field;
+use std::marker::PhantomData;
+
+/// What the groups weigh their symbols by: number t of row i is α^(i·t), for each coded column i and data column t
+/// that a code can have.
+#[derive(Drop)]
+pub(crate) struct Weights<F: Field> {
+    rows: [[u16; 8]; 3],
+    field: PhantomData<F>,
+    ghost are: { GroupWeights F.ops rows },
+}
+
+impl<F: Field> Weights<F> {
+    /// Row i is filled with the powers of α^i.
+    pub(crate) fn new(points: &Points<F>) -> Self {
+        let mut rows = [[0; 8]; 3];
+        for i in 0..3 {
+            powers::<F>(points.powers[i], &mut rows[i]);
+        }
+        Weights {
+            rows,
+            field: PhantomData,
+        }
+    }
+}
 
 /// ⟨v − s⟩, for a node v and a shift s below n.
 pub(crate) fn back(n: usize, v: usize, s: usize) -> usize
@@ -22,7 +48,7 @@ pub(crate) fn back(n: usize, v: usize, s: usize) -> usize
 /// data column. By the group rule it is the symbol of node ⟨j + i⟩, column m + i.
 pub(crate) fn group_sum<F: Field, X: Fn(usize, usize) -> u16>(
     code: &Code,
-    points: &Points<F>,
+    weights: &Weights<F>,
     symbol: X,
     j: usize,
     i: usize,
@@ -37,7 +63,7 @@ pub(crate) fn group_sum<F: Field, X: Fn(usize, usize) -> u16>(
     let mut sum = 0;
     for t in 0..code.data_columns() {
         let v = back(n, j, t + 1);
-        sum = F::sum(sum, F::product(points.powers[i * t], symbol(v, t)));
+        sum = F::sum(sum, F::product(weights.rows[i][t], symbol(v, t)));
     }
     sum
 }

@@ -8,7 +8,7 @@ ghost use Rattle.encode.specs.Rules.{ColumnSums, GroupSums, KeepsRules, group_su
 ghost use Rattle.encode.specs.Systems.{column_sum};
 
 use crate::columns::Column;
-use crate::groups::group_sum;
+use crate::groups::{Weights, group_sum};
 use crate::points::Points;
 use crate::sums::{all_symbols, column_sum};
 use code::{Code, MOST_NODES, Refusal};
@@ -82,7 +82,7 @@ impl<'a> Cells<'a> {
     }
 
     // Whether the symbol of coded column i in the group of node j is what the group rule says.
-    fn keeps_coded<F: Field>(&self, points: &Points<F>, j: usize, i: usize) -> bool
+    fn keeps_coded<F: Field>(&self, weights: &Weights<F>, j: usize, i: usize) -> bool
         requires node { j < self.now.code.now.n }
         requires column { i < self.now.code.now.a }
         ensures { Decides result (in_memory self.now.code.now self.now.numbers.now (ahead self.now.code.now.n j i)
@@ -90,24 +90,24 @@ impl<'a> Cells<'a> {
             ≡ group_sum F.ops self.now.code.now (in_memory self.now.code.now self.now.numbers.now) j i) }
     {
         let symbol = self.at(self.code.ahead(j, i), self.code.data_columns() + i);
-        symbol == group_sum(self.code, points, |v, t| self.at(v, t), j, i)
+        symbol == group_sum(self.code, weights, |v, t| self.at(v, t), j, i)
     }
 
     // Whether the coded symbols of the group of node j are what the group rule says.
-    fn keeps_group<F: Field>(&self, points: &Points<F>, j: usize) -> bool
+    fn keeps_group<F: Field>(&self, weights: &Weights<F>, j: usize) -> bool
         requires { j < self.now.code.now.n }
         ensures { Decides result (GroupSums F.ops self.now.code.now
             (in_memory self.now.code.now self.now.numbers.now) j) }
     {
-        (0..self.code.coded_columns()).all(|i| self.keeps_coded(points, j, i))
+        (0..self.code.coded_columns()).all(|i| self.keeps_coded(weights, j, i))
     }
 
     // Whether the cells keep the group rule.
-    fn keeps_groups<F: Field>(&self, points: &Points<F>) -> bool
+    fn keeps_groups<F: Field>(&self, weights: &Weights<F>) -> bool
         ensures { Decides result (GroupRule F.ops self.now.code.now
             (in_memory self.now.code.now self.now.numbers.now)) }
     {
-        (0..self.code.nodes()).all(|j| self.keeps_group(points, j))
+        (0..self.code.nodes()).all(|j| self.keeps_group(weights, j))
     }
 
     // Whether the numbers of the cells are symbols of the field.
@@ -125,6 +125,6 @@ impl<'a> Cells<'a> {
     {
         self.all_symbols::<F>()
             && self.keeps_columns::<F>()
-            && self.keeps_groups(&Points::<F>::new())
+            && self.keeps_groups(&Weights::<F>::new(&Points::new()))
     }
 }

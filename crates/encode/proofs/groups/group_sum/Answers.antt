@@ -1,4 +1,4 @@
-use Rattle.std.proofs.Common.{◌≡◌, ℕ, ◌+◌, ◌*◌, ◌<◌, ◌≤◌, get_or, ap, ◌∙◌, mul-le-mul_right, arith}
+use Rattle.std.proofs.Common.{◌≡◌, ℕ, ◌+◌, ◌*◌, ◌<◌, [], get_or, ap, ◌∙◌, arith}
 use Rattle.field.specs.Laws.{power}
 use Rattle.algebra.specs.Sums.{sum}
 use Rattle.algebra.proofs.Numbers.{sum_next}
@@ -15,8 +15,7 @@ loop-t-preserved g c x answers =
     let node : c.back-v.result ≡ behind c.args.code.now.n c.args.j (c.loop-t.t + 1) = c.back-v.ensures ∙ ap (λ n. behind n j (t + 1)) c.nodes-n.ensures in
     let inside : c.back-v.result < c.args.code.now.n = rw node (behind_below n j (t + 1) (omega arith)) in
     let symbol : c.symbol.result ≡ x c.back-v.result c.loop-t.t = answers c.back-v.result t c.symbol.result inside (omega arith) c.symbol.ensures in
-    let small : c.args.i * c.loop-t.t ≤ 2 * c.loop-t.t = mul-le-mul_right {m = c.args.i} {n = 2} t (omega arith) in
-    let weight : get_or c.args.points.now.powers (c.args.i * c.loop-t.t) 0 ≡ power F F.α (c.args.i * c.loop-t.t) = c.args.points.now.are (c.args.i * t) (omega arith) in
+    let weight : get_or (get_or c.args.weights.now.rows c.args.i []) c.loop-t.t 0 ≡ power F F.α (c.args.i * c.loop-t.t) = c.args.weights.now.are c.args.i t (omega arith) (omega arith) in
     let before : c.loop-t.sum ≡ sum F c.loop-t.t (λ t. F.mul (power F F.α (c.args.i * t)) (x (behind c.args.code.now.n c.args.j (t + 1)) t)) = c.loop-t.invariant x answers in
     let more = sum_next F t (λ t. F.mul (power F F.α (c.args.i * t)) (x (behind c.args.code.now.n c.args.j (t + 1)) t)) in
     cc
