@@ -40,8 +40,9 @@ fn place_file(code: &Code, file: &[u16], columns: &mut Columns)
 }
 
 // The target of the syndrome with these weights goes to parity place i of the column.
-fn set_target<F: Field>(code: &Code, i: usize, weights: &Column, column: &mut Column)
-    requires { i < parity code.now }
+fn set_target<F: Field>(code: &Code, i: usize, weights: &[u16], column: &mut Column)
+    requires place { i < parity code.now }
+    requires weights { length weights.now ≡ code.now.k }
     ensures made { slice_index column.new (code.now.k + i)
         ≡ F.ops.sub 0
         (sum F.ops code.now.k (λ j. F.ops.mul (slice_index weights.now j) (slice_index column.old j))) }
@@ -53,8 +54,9 @@ fn set_target<F: Field>(code: &Code, i: usize, weights: &Column, column: &mut Co
 }
 
 // The same in each column.
-fn set_targets<F: Field>(code: &Code, i: usize, weights: &Column, columns: &mut Columns)
-    requires { i < parity code.now }
+fn set_targets<F: Field>(code: &Code, i: usize, weights: &[u16], columns: &mut Columns)
+    requires place { i < parity code.now }
+    requires weights { length weights.now ≡ code.now.k }
     ensures made { (t : ℕ) → t < code.now.m
         → in_columns columns.new (code.now.k + i) t
         ≡ F.ops.sub 0
@@ -72,10 +74,11 @@ fn all_targets<F: Field>(code: &Code, points: &Points<F>, columns: &mut Columns)
         → in_columns columns.new (code.now.k + i) t ≡ target F.ops code.now (in_columns columns.old) i t }
     ensures kept { SameData code.now (in_columns columns.new) (in_columns columns.old) }
 {
-    let mut weights = [0; MOST_NODES];
+    let mut room = [0; MOST_NODES];
+    let weights = &mut room[..code.data_nodes()];
     for i in 0..code.parity_nodes() {
-        powers::<F>(points.powers[i], &mut weights);
-        set_targets::<F>(code, i, &weights, columns);
+        powers::<F>(points.powers[i], weights);
+        set_targets::<F>(code, i, weights, columns);
     }
 }
 

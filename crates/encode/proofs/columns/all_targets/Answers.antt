@@ -13,7 +13,7 @@ loop-i-preserved g c =
     let k = c.args.code.now.k in
     let xs = c.loop-i.columns in
     let W = c.powers.new.out in
-    let nw : length c.powers.new.out ≡ 64 = omega (arith, c.loop-i.invariant.long) in
+    let nw : length c.powers.new.out ≡ c.args.code.now.k = omega (arith, c.loop-i.invariant.long) in
     let base : get_or c.args.points.now.powers c.loop-i.i 0 ≡ power F F.α c.loop-i.i = c.args.points.now.are c.loop-i.i (omega arith) in
     let weight : (j : ℕ) → j < c.args.code.now.k → get_or c.powers.new.out j 0 ≡ power F F.α (c.loop-i.i * j) =
     λ j h. c.powers.ensures j (omega arith) ∙ ap (λ b. power F b j) base ∙ sym (numbers.power-mul F L F.α j d) ∙ ap (power F F.α) (mul_comm j d) in
