@@ -6,3 +6,4 @@ pub mod Stripes
 pub mod Memory
 pub mod Steps
 pub mod Ranges
+pub mod Products

@@ -10,6 +10,13 @@ use crate::points::Points;
 use code::Code;
 use field::Field;
 
+/// How many cells a code has, n·(m + a).
+pub(crate) fn cell_count(code: &Code) -> usize
+    ensures { result ≡ cell_count code.now }
+{
+    code.nodes() * code.columns()
+}
+
 // The symbol of node v, column c: coded column i has there the sum of the group of node ⟨v − i⟩.
 fn cell<F: Field>(code: &Code, weights: &Weights<F>, columns: &Columns, v: usize, c: usize) -> u16
     requires node { v < code.now.n }

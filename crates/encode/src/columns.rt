@@ -24,8 +24,9 @@ fn gather(code: &Code, file: &[u16], t: usize, column: &mut Column)
     ensures { (j : ℕ) → j < code.now.k → slice_index column.new j ≡ slice_index file.now (j * code.now.m + t) }
 {
     let m = code.data_columns();
-    for j in 0..code.data_nodes() {
-        column[j] = file[j * m + t];
+    let places = &mut column[..code.data_nodes()];
+    for (j, x) in places.iter_mut().enumerate() {
+        *x = file[j * m + t];
     }
 }
 

@@ -5,7 +5,7 @@ ghost use Rattle.code.specs.Refusals.{Least};
 ghost use Rattle.encode.specs.Encoding.{Declined, Encoded};
 ghost use Rattle.encode.specs.Rules.{Judged};
 
-use cells::write_nodes;
+use cells::{cell_count, write_nodes};
 use code::{Code, MOST_NODES, Refusal};
 use columns::complete;
 use field::Field;
@@ -27,7 +27,7 @@ pub use sums::column_sum;
 fn due<F: Field>(code: &Code, file: &[u16], room: usize) -> Option<Refusal>
     ensures { Least (Declined F.ops code.now file.now room) result }
 {
-    if room < code.nodes() * code.columns() {
+    if room < cell_count(code) {
         return Some(Refusal::Shape);
     }
     if file.len() != code.file_length() {
@@ -52,7 +52,7 @@ pub fn encode<F: Field>(code: &Code, file: &[u16], cells: &mut [u16]) -> Result<
     let mut columns = [[0; MOST_NODES]; 8];
     complete(code, file, &points, &mut columns);
     write_nodes(code, &points, &columns, cells);
-    Ok(code.nodes() * code.columns())
+    Ok(cell_count(code))
 }
 
 /// Whether the first n·(m + a) numbers of `cells` are symbols of the field that keep the column rule and the group

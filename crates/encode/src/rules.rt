@@ -7,6 +7,7 @@ ghost use Rattle.encode.specs.Encoding.{cell_count, in_memory};
 ghost use Rattle.encode.specs.Rules.{ColumnSums, GroupSums, KeepsRules, group_sum};
 ghost use Rattle.encode.specs.Systems.{column_sum};
 
+use crate::cells::cell_count;
 use crate::columns::Column;
 use crate::groups::{Weights, group_sum};
 use crate::points::Points;
@@ -35,7 +36,7 @@ impl<'a> Cells<'a> {
         ensures cells { IfOk result (λ cells. (cells.code.now ≡ code.now) × (cells.numbers.now ≡ numbers.now)) }
         ensures shape { IfErr result (λ e. (e ≡ Shape) × (length numbers.now < cell_count code.now)) }
     {
-        if numbers.len() < code.nodes() * code.columns() {
+        if numbers.len() < cell_count(code) {
             return Err(Refusal::Shape);
         }
         Ok(Cells { code, numbers })
@@ -57,8 +58,9 @@ impl<'a> Cells<'a> {
             → slice_index result j ≡ in_memory self.now.code.now self.now.numbers.now j t }
     {
         let mut column = [0; MOST_NODES];
-        for j in 0..self.code.nodes() {
-            column[j] = self.at(j, t);
+        let places = &mut column[..self.code.nodes()];
+        for (j, x) in places.iter_mut().enumerate() {
+            *x = self.at(j, t);
         }
         column
     }
@@ -115,7 +117,7 @@ impl<'a> Cells<'a> {
         ensures { Decides result ((j c : ℕ) → j < self.now.code.now.n → c < width self.now.code.now
             → in_memory self.now.code.now self.now.numbers.now j c < F.ops.q) }
     {
-        all_symbols::<F>(&self.numbers[..self.code.nodes() * self.code.columns()])
+        all_symbols::<F>(&self.numbers[..cell_count(self.code)])
     }
 
     /// Whether the cells hold symbols of the field that keep the column rule and the group rule.

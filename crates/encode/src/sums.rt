@@ -1,7 +1,6 @@
 // Symbols, powers and sums over slices.
-ghost use Rattle.std.specs.Prelude.{◌≡◌, ℕ, ◌<◌, ◌≤◌, true, false, length, slice_index};
+ghost use Rattle.std.specs.Prelude.{◌≡◌, ℕ, ◌<◌, ◌≤◌, true, false, length, slice_index, fold, zip};
 ghost use Rattle.field.specs.Laws.{power};
-ghost use Rattle.algebra.specs.Sums.{sum};
 ghost use Rattle.encode.specs.Systems.{AllBelow, column_sum};
 
 use field::Field;
@@ -25,18 +24,15 @@ pub(crate) fn powers<F: Field>(base: u16, out: &mut [u16])
     }
 }
 
-// The sum over the column's symbols of weights[j] · column[j].
+/// The sum of weights[j] · column[j], over the places j of the shorter slice.
 pub(crate) fn weighted_sum<F: Field>(weights: &[u16], column: &[u16]) -> u16
-    requires { length column.now ≤ length weights.now }
     ensures { result
-        ≡ sum F.ops (length column.now)
-        (λ j. F.ops.mul (slice_index weights.now j) (slice_index column.now j)) }
+        ≡ fold (λ (sum : ℕ) (at : ℕ × ℕ). F.ops.add sum (F.ops.mul at.0 at.1)) 0 (zip weights.now column.now) }
 {
-    let mut sum = 0;
-    for (j, x) in column.iter().enumerate() {
-        sum = F::sum(sum, F::product(weights[j], *x));
-    }
-    sum
+    weights
+        .iter()
+        .zip(column)
+        .fold(0, |sum, (w, x)| F::sum(sum, F::product(*w, *x)))
 }
 
 // The sum over the column's symbols of α^(i·j) · column[j], with j the symbol's place.

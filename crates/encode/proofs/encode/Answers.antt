@@ -15,7 +15,7 @@ returns g c =
     let F = g.F.Field.ops in
     let L = g.met.F.Field.laws in (
       c.in_default.ensures,
-      ap₂ ◌*◌ c.nodes.ensures c.columns.ensures,
+      c.cell_count.ensures,
       record {
         stripe = stripe_of F L c.args.code.now c.args.file.now (in_columns c.complete.new.columns) (in_memory c.args.code.now c.write_nodes.new.cells) c.complete.ensures c.write_nodes.ensures.written;
         long = omega arith;

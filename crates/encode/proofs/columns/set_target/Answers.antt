@@ -5,6 +5,7 @@ use Rattle.algebra.specs.Sums.{sum}
 use Rattle.algebra.proofs.Numbers.{sum_same}
 use Rattle.encode.specs.Scratch.{in_columns}
 use Rattle.encode.proofs.Places.{column_written, column_kept}
+use Rattle.encode.proofs.Products.{zip_sum}
 use Rattle.encode.proofs.columns.set_target.Goals as goal
 
 pub returns-clause-made : goal.returns-clause-made
@@ -21,6 +22,7 @@ returns-clause-made g c =
     ∙ c.difference.ensures
     ∙ ap (F.sub 0)
     (c.weighted_sum-sum.ensures
+    ∙ zip_sum F ws (take K xs) (omega arith)
     ∙ ap (λ n. sum F n (λ j. F.mul (get_or ws j 0) (get_or (take K xs) j 0))) (long ∙ kk)
     ∙ sum_same F k (λ j. F.mul (get_or ws j 0) (get_or (take K xs) j 0)) (λ j. F.mul (get_or ws j 0) (get_or xs j 0))
     (λ j h. ap (F.mul (get_or ws j 0)) (get_or-take K xs j 0 (omega arith))))

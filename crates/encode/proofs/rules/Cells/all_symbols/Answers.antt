@@ -12,9 +12,9 @@ returns g c =
     let F = g.F.Field.ops in
     let code = c.args.self.now.code.now in
     let numbers = c.args.self.now.numbers.now in
-    let K = c.nodes.result * c.columns.result in
-    let count : c.nodes.result * c.columns.result ≡ cell_count c.args.self.now.code.now = ap₂ ◌*◌ c.nodes.ensures c.columns.ensures in
-    let room : c.nodes.result * c.columns.result ≤ length c.args.self.now.numbers.now = omega (arith, count, c.args.self.now.room) in (
+    let K = c.cell_count.result in
+    let count : c.cell_count.result ≡ cell_count c.args.self.now.code.now = c.cell_count.ensures in
+    let room : c.cell_count.result ≤ length c.args.self.now.numbers.now = omega (arith, count, c.args.self.now.room) in (
       λ e. cells_below F.q code numbers K count room (c.all_symbols.ensures.yes e),
       λ all. not_false c.all_symbols.result
           (λ e.
