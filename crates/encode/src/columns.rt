@@ -11,11 +11,15 @@ use crate::vandermonde::solve;
 use code::{Code, MOST_NODES};
 use field::Field;
 
+/// The most data columns of a code.
+pub(crate) const MOST_DATA_COLUMNS: usize = 8;
+
 /// A column of the scratch memory: a place for each node that a code can have.
 pub(crate) type Column = [u16; MOST_NODES];
 
-/// One for each data column that a code can have.
-pub(crate) type Columns = [Column; 8];
+/// One for each data column that a code can have. In a struct of the code and its columns, each method that writes
+/// would have to promise that the code stays, so the two stand side by side in the calls below.
+pub(crate) type Columns = [Column; MOST_DATA_COLUMNS];
 
 // Copies the file's symbols of column t to its data places.
 fn gather(code: &Code, file: &[u16], t: usize, column: &mut Column)
@@ -35,6 +39,7 @@ fn place_file(code: &Code, file: &[u16], columns: &mut Columns)
     requires { length file.now ≡ code.now.k * code.now.m }
     ensures { Starts code.now file.now (in_columns columns.new) }
 {
+    // By index, here and below: no proof covers a column of `iter_mut` that is handed on.
     for t in 0..code.data_columns() {
         gather(code, file, t, &mut columns[t]);
     }
@@ -77,6 +82,7 @@ fn all_targets<F: Field>(code: &Code, points: &Points<F>, columns: &mut Columns)
 {
     let mut room = [0; MOST_NODES];
     let weights = &mut room[..code.data_nodes()];
+    // The number i names both a point and a place.
     for i in 0..code.parity_nodes() {
         powers::<F>(points.powers[i], weights);
         set_targets::<F>(code, i, weights, columns);

@@ -5,17 +5,21 @@ ghost use Rattle.code.specs.Stripe.{Symbols};
 ghost use Rattle.encode.specs.Rules.{group_sum};
 ghost use Rattle.encode.specs.Scratch.{GroupWeights};
 
+use crate::columns::MOST_DATA_COLUMNS;
 use crate::points::Points;
 use crate::sums::powers;
 use code::Code;
 use field::Field;
 use std::marker::PhantomData;
 
+// The most coded columns of a code.
+const MOST_CODED_COLUMNS: usize = 3;
+
 /// What the groups weigh their symbols by: number t of row i is α^(i·t), for each coded column i and data column t
 /// that a code can have.
 #[derive(Drop)]
 pub(crate) struct Weights<F: Field> {
-    rows: [[u16; 8]; 3],
+    rows: [[u16; MOST_DATA_COLUMNS]; MOST_CODED_COLUMNS],
     field: PhantomData<F>,
     ghost are: { GroupWeights F.ops rows },
 }
@@ -23,8 +27,9 @@ pub(crate) struct Weights<F: Field> {
 impl<F: Field> Weights<F> {
     /// Row i is filled with the powers of α^i.
     pub(crate) fn new(points: &Points<F>) -> Self {
-        let mut rows = [[0; 8]; 3];
-        for i in 0..3 {
+        let mut rows = [[0; MOST_DATA_COLUMNS]; MOST_CODED_COLUMNS];
+        // By index: no proof covers a row of `iter_mut` that is handed on.
+        for i in 0..MOST_CODED_COLUMNS {
             powers::<F>(points.powers[i], &mut rows[i]);
         }
         Weights {
@@ -34,7 +39,8 @@ impl<F: Field> Weights<F> {
     }
 }
 
-/// ⟨v − s⟩, for a node v and a shift s below n.
+/// ⟨v − s⟩, for a node v and a shift s below n. `Code::behind` takes any two numbers, and remainders for that: the
+/// sums below have a shift for each term, and do without.
 pub(crate) fn back(n: usize, v: usize, s: usize) -> usize
     requires node { v < n }
     requires shift { s < n }
@@ -61,6 +67,7 @@ pub(crate) fn group_sum<F: Field, X: Fn(usize, usize) -> u16>(
 {
     let n = code.nodes();
     let mut sum = 0;
+    // A loop, since the closure of a fold would have to repeat what these calls require.
     for t in 0..code.data_columns() {
         let v = back(n, j, t + 1);
         sum = F::sum(sum, F::product(weights.rows[i][t], symbol(v, t)));

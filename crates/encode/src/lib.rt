@@ -7,7 +7,7 @@ ghost use Rattle.encode.specs.Rules.{Judged};
 
 use cells::{cell_count, write_nodes};
 use code::{Code, MOST_NODES, Refusal};
-use columns::complete;
+use columns::{MOST_DATA_COLUMNS, complete};
 use field::Field;
 use points::Points;
 use rules::Cells;
@@ -49,7 +49,7 @@ pub fn encode<F: Field>(code: &Code, file: &[u16], cells: &mut [u16]) -> Result<
         return Err(e);
     }
     let points = Points::<F>::new();
-    let mut columns = [[0; MOST_NODES]; 8];
+    let mut columns = [[0; MOST_NODES]; MOST_DATA_COLUMNS];
     complete(code, file, &points, &mut columns);
     write_nodes(code, &points, &columns, cells);
     Ok(cell_count(code))

@@ -112,7 +112,7 @@ impl<'a> Cells<'a> {
         (0..self.code.nodes()).all(|j| self.keeps_group(weights, j))
     }
 
-    // Whether the numbers of the cells are symbols of the field.
+    // Whether the numbers of all cells are symbols of the field.
     fn all_symbols<F: Field>(&self) -> bool
         ensures { Decides result ((j c : ℕ) → j < self.now.code.now.n → c < width self.now.code.now
             → in_memory self.now.code.now self.now.numbers.now j c < F.ops.q) }

@@ -5,7 +5,7 @@ ghost use Rattle.encode.specs.Systems.{AllBelow, column_sum};
 
 use field::Field;
 
-// Whether every number of the slice is a symbol of the field.
+/// Whether every number of the slice is a symbol of the field.
 pub(crate) fn all_symbols<F: Field>(xs: &[u16]) -> bool
     ensures yes { result ≡ true → AllBelow F.ops.q xs.now }
     ensures not { result ≡ false → (p : ℕ) × (p < length xs.now) × (F.ops.q ≤ slice_index xs.now p) }
@@ -13,7 +13,7 @@ pub(crate) fn all_symbols<F: Field>(xs: &[u16]) -> bool
     xs.iter().all(|x| u32::from(*x) < F::SIZE)
 }
 
-// Fills the slice with the powers of a symbol: number j is base^j.
+/// Fills the slice with the powers of a symbol: number j is base^j.
 pub(crate) fn powers<F: Field>(base: u16, out: &mut [u16])
     ensures { (j : ℕ) → j < length out.new → slice_index out.new j ≡ power F.ops base j }
 {
@@ -35,13 +35,14 @@ pub(crate) fn weighted_sum<F: Field>(weights: &[u16], column: &[u16]) -> u16
         .fold(0, |sum, (w, x)| F::sum(sum, F::product(*w, *x)))
 }
 
-// The sum over the column's symbols of α^(i·j) · column[j], with j the symbol's place.
+/// The sum over the column's symbols of α^(i·j) · column[j], with j the symbol's place.
 pub fn column_sum<F: Field>(i: usize, column: &[u16]) -> u16
     ensures { result ≡ column_sum F.ops i column.now }
 {
     let step = field::power::<F>(F::GENERATOR, i);
     let mut weight = 1;
     let mut sum = 0;
+    // A loop, since a fold would carry both the sum and the weight.
     for x in column.iter() {
         sum = F::sum(sum, F::product(weight, *x));
         weight = F::product(step, weight);

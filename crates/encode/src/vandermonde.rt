@@ -6,6 +6,7 @@ ghost use Rattle.encode.specs.Systems.{AllBelow, AllDiffer, Reaches};
 use field::Field;
 
 // Targets for the points without the first one, z: each target but the first loses z times the one before it.
+// By index, since each step reads two places of the slice that it writes.
 fn reduce<F: Field>(z: u16, targets: &mut [u16])
     ensures first { slice_index targets.new 0 ≡ slice_index targets.old 0 }
     ensures rest { (i : ℕ) → i + 1 < length targets.old
@@ -18,7 +19,8 @@ fn reduce<F: Field>(z: u16, targets: &mut [u16])
 }
 
 // From a solution for the points without the first one: each of its symbols is divided by the difference of its
-// point and the first, and what they sum up to is taken from the first target.
+// point and the first, and what they sum up to is taken from the first target. By index, since after a zip over
+// `iter_mut` a proof knows the length of the targets alone.
 fn lift<F: Field>(points: &[u16], targets: &mut [u16])
     requires long { length points.now ≡ length targets.old }
     requires some { 0 < length targets.old }
@@ -39,8 +41,8 @@ fn lift<F: Field>(points: &[u16], targets: &mut [u16])
     targets[0] = first;
 }
 
-// Solves the Vandermonde system of the points for the targets, in place: afterwards the syndromes of what stands in
-// `targets` are what stood there. It takes about as many products as the square of the number of points.
+/// Solves the Vandermonde system of the points for the targets, in place: afterwards the syndromes of what stands in
+/// `targets` are what stood there. It takes about as many products as the square of the number of points.
 pub(crate) fn solve<F: Field>(points: &[u16], targets: &mut [u16])
     requires long { length points.now ≡ length targets.old }
     requires points { AllBelow F.ops.q points.now }
@@ -49,10 +51,10 @@ pub(crate) fn solve<F: Field>(points: &[u16], targets: &mut [u16])
     ensures reached { Reaches F.ops points.now targets.old targets.new }
     ensures below { AllBelow F.ops.q targets.new }
 {
-    if points.len() == 0 {
+    let Some((first, rest)) = points.split_first() else {
         return;
-    }
-    reduce::<F>(points[0], targets);
-    solve::<F>(&points[1..], &mut targets[1..]);
+    };
+    reduce::<F>(*first, targets);
+    solve::<F>(rest, &mut targets[1..]);
     lift::<F>(points, targets);
 }
