@@ -1,9 +1,9 @@
 -- The sum of the products of two lists, as a fold over both and as a sum over the places.
-use Rattle.std.proofs.Common.{◌≡◌, ℕ, zero, suc, ◌+◌, ◌≤◌, ◌<◌, List, [], ◌∷◌, length, get_or, sym, refl, ap, ◌∙◌, arith}
+use Rattle.std.proofs.Common.{◌≡◌, ℕ, suc, ◌+◌, ◌≤◌, ◌<◌, List, [], ◌∷◌, length, get_or, sym, ap, ◌∙◌, arith}
 use Rattle.std.specs.Prelude.{fold, zip}
 use Rattle.field.specs.Laws.{Operations}
 use Rattle.algebra.specs.Sums.{sum}
-use Rattle.algebra.proofs.Numbers.{sum_next, sum_same}
+use Rattle.algebra.proofs.Numbers.{sum_next}
 
 module _ (F : Operations) where
   -- the k terms of f before the products of the lists, which are its next terms

@@ -1,5 +1,5 @@
 // The data columns of a stripe, completed side by side in scratch memory.
-ghost use Rattle.std.specs.Prelude.{◌≡◌, ℕ, ◌+◌, ◌*◌, ◌<◌, ◌≤◌, length, ◌≢◌, slice_index};
+ghost use Rattle.std.specs.Prelude.{◌≡◌, ℕ, ◌+◌, ◌*◌, ◌<◌, length, ◌≢◌, slice_index};
 ghost use Rattle.field.specs.Laws.{power};
 ghost use Rattle.algebra.specs.Sums.{sum, syndrome};
 ghost use Rattle.code.specs.Stripe.{IsFile, parity};

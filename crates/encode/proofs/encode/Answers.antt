@@ -1,4 +1,4 @@
-use Rattle.std.proofs.Common.{◌*◌, length, ap₂, arith}
+use Rattle.std.proofs.Common.{length, arith}
 use Rattle.encode.specs.Encoding.{in_memory}
 use Rattle.encode.specs.Scratch.{in_columns}
 use Rattle.encode.proofs.Stripes.{accepted_file, accepted_room, stripe_of}

@@ -2,19 +2,10 @@ use Rattle.std.proofs.Common.{◌≡◌, ℕ, ◌+◌, ◌-◌, ◌*◌, ◌<◌
 use Rattle.std.proofs.lemmas.Bool.{cases_lt}
 use Rattle.std.proofs.lemmas.Nat.{mul-add-lt}
 use Rattle.field.specs.Laws.{power}
-use Rattle.algebra.specs.Sums.{sum}
 use Rattle.algebra.proofs.Numbers as numbers
 use Rattle.encode.specs.Scratch.{in_columns}
 use Rattle.encode.proofs.PointParts.{column_sum_zero}
 use Rattle.encode.proofs.columns.complete.Goals as goal
-
-pub solve_all-requires : goal.solve_all-requires
-solve_all-requires g c =
-    let F = g.F.Field.ops in
-    let L = g.met.F.Field.laws in
-    let k = c.args.code.now.k in
-    let x = in_columns c.place_file.new.columns in
-    λ i t hi ht. rw (c.all_targets.ensures.made i t hi ht) (L.sub_below 0 (sum F k (λ j. F.mul (power F F.α (i * j)) (x j t))))
 
 pub returns : goal.returns
 returns g c =

@@ -1,10 +1,7 @@
-use Rattle.std.proofs.Common.{◌≡◌, ℕ, ◌+◌, ◌*◌, ◌<◌, ◌≢◌, length, get_or, take, set, ap, sym, ◌∙◌, inl, inr, arith, length-set, get_or-set_same, []}
-use Rattle.std.proofs.lemmas.Bool.{cases_eq}
+use Rattle.std.proofs.Common.{◌≡◌, ◌+◌, length, get_or, take, set, ap, sym, ◌∙◌, arith, get_or-set_same}
 use Rattle.std.proofs.lemmas.List.{get_or-take, length-take-le}
 use Rattle.algebra.specs.Sums.{sum}
 use Rattle.algebra.proofs.Numbers.{sum_same}
-use Rattle.encode.specs.Scratch.{in_columns}
-use Rattle.encode.proofs.Places.{column_written, column_kept}
 use Rattle.encode.proofs.Products.{zip_sum}
 use Rattle.encode.proofs.columns.set_target.Goals as goal
 

@@ -1,7 +1,5 @@
-use Rattle.std.proofs.Common.{◌≡◌, ℕ, ◌+◌, ◌*◌, ◌<◌, ◌≢◌, length, get_or, take, ap, sym, ◌∙◌, inl, inr, arith, length-set, get_or-set_same, []}
+use Rattle.std.proofs.Common.{◌≡◌, ◌+◌, length, get_or, ap, ◌∙◌, inl, inr, arith, length-set}
 use Rattle.std.proofs.lemmas.Bool.{cases_eq}
-use Rattle.std.proofs.lemmas.List.{get_or-take, length-take-le}
-use Rattle.algebra.specs.Sums.{sum}
 use Rattle.algebra.proofs.Numbers.{sum_same}
 use Rattle.encode.specs.Scratch.{in_columns}
 use Rattle.encode.proofs.Places.{column_written, column_kept}

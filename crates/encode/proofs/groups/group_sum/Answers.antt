@@ -1,4 +1,4 @@
-use Rattle.std.proofs.Common.{◌≡◌, ℕ, ◌+◌, ◌*◌, ◌<◌, [], get_or, ap, ◌∙◌, arith}
+use Rattle.std.proofs.Common.{◌≡◌, ◌+◌, ◌*◌, ◌<◌, [], get_or, ap, ◌∙◌, arith}
 use Rattle.field.specs.Laws.{power}
 use Rattle.algebra.specs.Sums.{sum}
 use Rattle.algebra.proofs.Numbers.{sum_next}

@@ -1,16 +1,7 @@
-use Rattle.std.proofs.Common.{◌≡◌, ◌+◌, ◌*◌, length, get_or, sym, ap, ◌∙◌, add_comm, mul-one, mul-add, arith}
+use Rattle.std.proofs.Common.{◌≡◌, ◌+◌, ◌*◌, get_or, ap, ◌∙◌, add_comm, mul-one, mul-add}
 use Rattle.field.specs.Laws.{power}
-use Rattle.algebra.specs.Sums.{sum}
 use Rattle.algebra.proofs.Numbers as numbers
 use Rattle.encode.proofs.sums.column_sum.Goals as goal
-
-pub loop-x-init : goal.loop-x-init
-loop-x-init g c =
-    let F = g.F.Field.ops in
-    let L = g.met.F.Field.laws in (
-      sym (numbers.power-times-zero F F.α c.args.i),
-      sym (numbers.sum_none F L (λ j. F.mul (power F F.α (c.args.i * j)) (get_or c.args.column.now j 0))),
-    )
 
 pub loop-x-preserved : goal.loop-x-preserved
 loop-x-preserved g c =
@@ -23,9 +14,3 @@ loop-x-preserved g c =
     let next : power F F.α (c.args.i * (c.loop-x.x-index + 1)) ≡ F.mul (power F F.α c.args.i) (power F F.α (c.args.i * c.loop-x.x-index)) = ap (power F F.α) exponent ∙ numbers.power-add F L F.α i (i * j) in
     let more = numbers.sum_next F j (λ j. F.mul (power F F.α (c.args.i * j)) (get_or c.args.column.now j 0)) in
     (cc, cc)
-
-pub returns : goal.returns
-returns g c =
-    let F = g.F.Field.ops in
-    let end : c.loop-x.x-index ≡ length c.args.column.now = omega arith in
-    c.loop-x.invariant.1 ∙ ap (λ n. sum F n (λ j. F.mul (power F F.α (c.args.i * j)) (get_or c.args.column.now j 0))) end

@@ -1,19 +1,8 @@
-use Rattle.std.proofs.Common.{◌≡◌, ◌+◌, ◌-◌, ◌<◌, ◌≤◌, ◌≢◌, length, get_or, set, sym, refl, ap, ◌∙◌, inl, inr, arith, get_or-set_other, get_or-set_same}
+use Rattle.std.proofs.Common.{◌≡◌, ◌+◌, ◌-◌, ◌<◌, ◌≤◌, ◌≢◌, length, get_or, set, sym, ap, ◌∙◌, inl, inr, arith, get_or-set_other, get_or-set_same}
 use Rattle.std.proofs.lemmas.Bool.{cases_eq}
 use Rattle.algebra.specs.Sums.{sum}
-use Rattle.algebra.proofs.Numbers.{sum_none}
 use Rattle.encode.proofs.Reduction.{taken, taken_all}
 use Rattle.encode.proofs.vandermonde.lift.Goals as goal
-
-pub loop-v-init : goal.loop-v-init
-loop-v-init g c =
-    let F = g.F.Field.ops in
-    let L = g.met.F.Field.laws in (
-      c.requires.target,
-      ap (F.add (get_or c.args.targets.now 0 0)) (sum_none F L (λ w. get_or c.args.targets.now (w + 1) 0)) ∙ L.add-zero (get_or c.args.targets.now 0 0) c.requires.target,
-      λ k h. absurd (omega arith),
-      λ k h. refl,
-    )
 
 pub loop-v-preserved : goal.loop-v-preserved
 loop-v-preserved g c =

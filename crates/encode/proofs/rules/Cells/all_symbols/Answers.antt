@@ -1,4 +1,4 @@
-use Rattle.std.proofs.Common.{◌≡◌, ◌*◌, ◌≤◌, Bool, true, false, length, refl, ap₂, arith}
+use Rattle.std.proofs.Common.{◌≡◌, ◌≤◌, Bool, true, false, length, refl, arith}
 use Rattle.encode.specs.Encoding.{cell_count}
 use Rattle.encode.proofs.Memory.{cells_below, numbers_below}
 use Rattle.encode.proofs.rules.Cells.all_symbols.Goals as goal
