@@ -31,7 +31,8 @@ pub fn rebuild<F: Field>(
     Ok(count)
 }
 
-// Gives a round the symbols for its present column, each from the array.
+// Gives a round the symbols for its present column, each from the array. There is no index to go over:
+// each turn uses the state that the turn before it made.
 fn fill_column<F: Field>(mut round: Wanting<F>, cells: &[u16]) -> Result<Holding<F>, Refusal>
     requires long { round.code.n * width round.code ≤ length cells.now }
     requires so_far { Fetching F.ops round.code round.node cells.now round }

@@ -46,7 +46,8 @@ fn file_of_legs() -> [u16; SYMBOLS] {
     file
 }
 
-// Gives the round the two symbols that it wants for one column, and notes the nodes that were asked.
+// Gives the round the two symbols that it wants for one column, and notes the nodes that were asked. The
+// range only says when the loop is over: which cell is wanted, the round says.
 fn fetch_column(
     mut round: Wanting<Bytes>,
     cells: &[u16; CELLS],
@@ -66,7 +67,8 @@ fn fetch_column(
     Err(Refusal::Outside)
 }
 
-// Rebuilds the cells of a node by a round over the cells of the others.
+// Rebuilds the cells of a node by a round over the cells of the others, column by column as the round goes
+// on.
 fn run_round(code: &Code, node: usize, cells: &[u16; CELLS]) -> Result<Brought, Refusal> {
     let mut symbols = [0; COLUMNS];
     let mut asked = [false; NODES];
