@@ -9,6 +9,7 @@ use store::Shape;
 #[derive(Drop)]
 pub struct Card<'a> {
     pub(crate) bytes: &'a mut [u8],
+    // a length beside the bytes, since the memory is lent and nothing is allocated
     pub(crate) used: usize,
     pub(crate) shape: Shape,
     ghost room: { used ≤ length bytes.now },

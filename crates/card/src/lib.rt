@@ -146,6 +146,7 @@ impl<'a> Store for Card<'a> {
         if !self.takes(j, c) {
             return false;
         }
+        // the cell is inside, so both fit a byte: `try_from` would have an error that never comes
         let (node, column) = (j as u8, c as u8);
         self.append(match v {
             Some(symbol) => Command::Write {

@@ -87,7 +87,8 @@ pub trait Store {
     ghost framed: { Framed meaning edited frame };
 }
 
-// The number that marks a lost cell of a grid.
+// The number that marks a lost cell of a grid. It is a number and no `None`, since the row that the owner
+// lends and reads holds numbers alone.
 const LOST: u32 = u32::MAX;
 
 // A grid's allowance, which no change spends.
