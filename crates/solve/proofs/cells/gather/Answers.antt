@@ -9,9 +9,9 @@ bounds-cells-x g c =
     let e : c.nodes.result * c.columns-columns.result ≡ cell_count c.args.code.now = ap₂ ◌*◌ c.nodes.ensures c.columns-columns.ensures in
     omega (arith, few_cells c.args.code.now)
 
-pub returns-then-from-order : goal.returns-then-from-order
-returns-then-from-order g c =
+pub returns-then-from-SIZE : goal.returns-then-from-SIZE
+returns-then-from-SIZE g c =
     let e : c.nodes.result * c.columns-columns.result ≡ c.args.code.now.n * c.columns-columns.result = ap (λ t. t * c.columns-columns.result) c.nodes.ensures in
     foreign_answer g.F.Field.ops c.args.code.now (g.S.Store.meaning c.args.store.now).cell c.loop-x.x c.in-Some.v
     c.columns-columns.result c.loop-x.cells c.loop-x.cells c.columns-columns.ensures (omega arith) c.loop-x.invariant (sym c.cell.ensures ∙ c.in-Some.is)
-    (omega arith)
+    (omega (arith, g.met.F.Field.size))

@@ -13,4 +13,4 @@ returns-else-c-t g c =
 pub returns : goal.returns
 returns g c =
     weight_coded g.F.Field.ops g.met.F.Field.laws c.args.code.now c.args.v c.args.c c.args.t c.data_columns-m.result _ _
-    c.data_columns-m.ensures c.requires.node c.requires.column c.requires.data_column (omega arith) (cc) (cc)
+    c.data_columns-m.ensures c.requires.node c.requires.column c.requires.data_column (omega arith) (cc) (cc (g.met.F.Field.generator))
