@@ -1,3 +1,4 @@
+mod Chains
 mod Elimination
 mod Memory
 mod Steps

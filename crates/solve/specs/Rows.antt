@@ -1,5 +1,5 @@
 -- Rows of a fixed width, one after the other in a list.
-use Rattle.std.specs.Prelude.{◌≡◌, ℕ, ◌+◌, ◌*◌, ◌<◌, ◌≤◌, cond, List, Some, None, Option, ◌≢◌, nat_lt, slice_index}
+use Rattle.std.specs.Prelude.{◌≡◌, ℕ, ◌+◌, ◌*◌, ◌<◌, ◌≤◌, cond, List, Option, MatchOption, ◌≢◌, nat_lt, slice_index}
 
 -- a 32-bit number as 16-bit operand: one that does not fit counts as 0
 abbrev pub operand : ℕ → ℕ
@@ -13,7 +13,7 @@ pub record RowIs (width s : ℕ) (f : ℕ → ℕ) (before after : List ℕ) : T
 
 -- The first row from `from` on, of `count` rows, whose number at the symbol is not 0, or that there is none.
 abbrev pub Usable : ℕ → ℕ → ℕ → ℕ → List ℕ → Option ℕ → Type 0
-Usable width count symbol from w (Some s) =
-    (from ≤ s) × (s < count) × (slice_index w (s * width + symbol) ≢ 0)
-    × ((i : ℕ) → from ≤ i → i < s → slice_index w (i * width + symbol) ≡ 0)
-Usable width count symbol from w None = (i : ℕ) → from ≤ i → i < count → slice_index w (i * width + symbol) ≡ 0
+Usable width count symbol from w r =
+    MatchOption r ((i : ℕ) → from ≤ i → i < count → slice_index w (i * width + symbol) ≡ 0)
+    (λ s. (from ≤ s) × (s < count) × (slice_index w (s * width + symbol) ≢ 0)
+    × ((i : ℕ) → from ≤ i → i < s → slice_index w (i * width + symbol) ≡ 0))

@@ -1,5 +1,6 @@
 // What the system of the present cells decides.
-ghost use Rattle.std.specs.Prelude.{◌≡◌, ℕ, ◌+◌, ◌*◌, ◌<◌, ◌≤◌, true, false, length, Some, None, slice_index};
+ghost use Rattle.std.specs.Prelude.{◌≡◌, ℕ, ◌+◌, ◌*◌, ◌<◌, ◌≤◌, true, false, length, Some, None, ◌≢◌, slice_index};
+ghost use Rattle.std.specs.Bool.{MatchBool};
 ghost use Rattle.solve.specs.Systems.{entry};
 ghost use Rattle.encode.specs.Encoding.{cell_count};
 ghost use Rattle.code.specs.Work.{front};
@@ -50,6 +51,14 @@ pub(crate) fn solve<F: Field, S: Store>(
     Ok(code.file_length())
 }
 
+// Whether all factors but the one at p are 0.
+fn only_at(factors: &[u32], p: usize) -> bool
+    ensures { MatchBool result ((c : ℕ) → c < length factors.now → c ≢ p → slice_index factors.now c ≡ 0)
+        ((c : ℕ) × (c < length factors.now) × (c ≢ p) × (slice_index factors.now c ≢ 0)) }
+{
+    factors.iter().enumerate().all(|(c, x)| c == p || *x == 0)
+}
+
 // The right side of the equation of symbol p, if it has no other factor than that at p.
 pub(crate) fn lone(work: &[u32], n: usize, p: usize) -> Option<u32>
     requires size { n < 505 }
@@ -58,15 +67,11 @@ pub(crate) fn lone(work: &[u32], n: usize, p: usize) -> Option<u32>
     ensures { Lone n (entry n work.now) p result }
 {
     let a = p * (n + 1);
-    if work[a + p] == 0 {
-        return None;
+    if work[a + p] != 0 && only_at(&work[a..a + n], p) {
+        Some(work[a + n])
+    } else {
+        None
     }
-    for c in 0..n {
-        if c != p && work[a + c] != 0 {
-            return None;
-        }
-    }
-    Some(work[a + n])
 }
 
 // The symbol that all fitting files share at a place.
@@ -91,15 +96,10 @@ pub(crate) fn decide<F: Field, S: Store>(
 fn all_lone(work: &[u32], n: usize) -> bool
     requires size { n < 505 }
     requires front { length work.now ≡ n * (n + 1) }
-    ensures yes { result ≡ true → (p : ℕ) → p < n → Lone n (entry n work.now) p (Some (entry n work.now p n)) }
-    ensures not { result ≡ false → (p : ℕ) × (p < n) × Lone n (entry n work.now) p None }
+    ensures { MatchBool result ((p : ℕ) → p < n → Lone n (entry n work.now) p (Some (entry n work.now p n)))
+        ((p : ℕ) × (p < n) × Lone n (entry n work.now) p None) }
 {
-    for p in 0..n {
-        if let None = lone(work, n, p) {
-            return false;
-        }
-    }
-    true
+    (0..n).all(|p| lone(work, n, p).is_some())
 }
 
 // Moves the right sides of the equations to the front of work memory.
@@ -115,12 +115,11 @@ fn move_right_sides(work: &mut [u32], n: usize)
 
 // Puts zeros from number n on.
 fn clear_from(work: &mut [u32], n: usize)
+    requires { n ≤ length work.old }
     ensures kept { (p : ℕ) → p < n → slice_index work.new p ≡ slice_index work.old p }
     ensures zeros { (p : ℕ) → n ≤ p → slice_index work.new p ≡ 0 }
 {
-    for p in n..work.len() {
-        work[p] = 0;
-    }
+    work[n..].fill(0);
 }
 
 // Leaves the only fitting file in the front of work memory, with zeros behind it, and returns its length.
@@ -146,7 +145,5 @@ pub(crate) fn clear_front(work: &mut [u32], size: usize)
     requires { size ≤ length work.old }
     ensures { FrontIs size (λ p. 0) work.old work.new }
 {
-    for p in 0..size {
-        work[p] = 0;
-    }
+    work[..size].fill(0);
 }

@@ -50,9 +50,8 @@ pub(crate) fn put_row(work: &mut [u32], width: usize, s: usize, row: &[u32])
     requires inside { s * width + width ≤ length work.old }
     ensures { RowIs width s (λ c. slice_index row.now c) work.old work.new }
 {
-    for c in 0..width {
-        work[s * width + c] = row[c];
-    }
+    let a = s * width;
+    work[a..a + width].copy_from_slice(&row[..width]);
 }
 
 // The next equation, from a given place on, whose factor at the symbol is not 0. There are width − 1 equations.
@@ -63,10 +62,5 @@ pub(crate) fn next_usable(work: &[u32], width: usize, symbol: usize, from: usize
     requires front { length work.now ≡ (width - 1) * width }
     ensures { Usable width (width - 1) symbol from work.now result }
 {
-    for s in from..width - 1 {
-        if work[s * width + symbol] != 0 {
-            return Some(s);
-        }
-    }
-    None
+    (from..width - 1).find(|s| work[*s * width + symbol] != 0)
 }

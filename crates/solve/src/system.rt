@@ -99,12 +99,7 @@ fn first_factor(row: &[u32], n: usize) -> Option<usize>
     requires { n ≤ length row.now }
     ensures { FirstFactor n row.now result }
 {
-    for c in 0..n {
-        if row[c] != 0 {
-            return Some(c);
-        }
-    }
-    None
+    row[..n].iter().position(|x| *x != 0)
 }
 
 // Takes one more equation up into the system. Where it contradicts the others the answer is `false`.

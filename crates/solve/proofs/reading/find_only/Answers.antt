@@ -26,7 +26,7 @@ move_right_sides-requires g c =
 pub returns-then-not-all_lone : goal.returns-then-not-all_lone
 returns-then-not-all_lone g c =
     let n = c.in_ok-n.ensures.0 in
-    let o = c.all_lone.ensures.not c.if-not-all_lone.true in (
+    let o = c.if-not-all_lone.ensures in (
       c.in_ok-n.ensures.1.proper,
       some_open g.F.Field.ops g.met.F.Field.laws c.args.code.now (g.S.Store.meaning c.args.store.now).cell c.solve.new.work
           c.in_ok-n.ensures.1 o.0 (subst (λ t. o.0 < t) n o.1)
@@ -41,7 +41,7 @@ returns g c =
       n,
       all_lone_only g.F.Field.ops g.met.F.Field.laws c.args.code.now (g.S.Store.meaning c.args.store.now).cell w
           c.in_ok-n.ensures.1 c.clear_from.new.work
-          (subst (λ t. (p : ℕ) → p < t → Lone t (entry t w) p (Some (entry t w p t))) n (c.all_lone.ensures.yes c.if-not-all_lone.false))
+          (subst (λ t. (p : ℕ) → p < t → Lone t (entry t w) p (Some (entry t w p t))) n c.if-not-all_lone.ensures)
           (subst (λ t. (p : ℕ) → p < t → get_or c.clear_from.new.work p 0 ≡ entry t w p t) n
           (λ p l. c.clear_from.ensures.kept p l ∙ c.move_right_sides.ensures.moved p l))
           (subst (λ t. (p : ℕ) → t ≤ p → get_or c.clear_from.new.work p 0 ≡ 0) n c.clear_from.ensures.zeros),
