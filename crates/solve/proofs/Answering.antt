@@ -1,6 +1,6 @@
 -- The smallest refusal that holds, from what the system decides.
-use Rattle.std.proofs.Common.{◌≡◌, ℕ, ◌+◌, ◌-◌, ◌*◌, ◌<◌, ◌≤◌, List, length, get_or, Some, Ok, Err, Result, sym, ◌∙◌, mul-le-mul_left, arith, lit≤, rules}
-use borrow.Rule.Slice.PartMut.{put_mid}
+use Rattle.std.proofs.Common.{◌≡◌, ℕ, ◌+◌, ◌*◌, ◌<◌, ◌≤◌, List, ◌++◌, drop, length, get_or, Some, Ok, Err, Result, sym, ◌∙◌, mul-le-mul_left, arith, lit≤, rules}
+use Rattle.std.specs.Prelude.{OnErr}
 use Rattle.std.proofs.lemmas.List.{places}
 use Rattle.field.specs.Laws.{Operations}
 use Rattle.code.specs.declared.record.Code.{Code}
@@ -9,8 +9,8 @@ use Rattle.code.specs.declared.refusal.Refusal.TheVariants.{Bounds, Shape, Lengt
 use Rattle.code.specs.Refusals.{Least, number}
 use Rattle.code.specs.Stripe.{Held, Fits}
 use Rattle.code.specs.Work.{front, WorkAfter, Cleared}
-use Rattle.solve.specs.Answers.{SharedHolds, SharedSymbol, OnlyHolds, OnlyIn}
-use Rattle.solve.specs.Decisions.{NoForeign, Fails, Decided, DifferAt, TwoFit, OnlyFront, FrontIs}
+use Rattle.solve.specs.Answers.{SharedHolds, SharedSymbol, OnlyHolds, OnlyIn, OnlyFile}
+use Rattle.solve.specs.Decisions.{NoForeign, Fails, Decided, DifferAt, TwoFit, OnlyDecided, OnlyFront}
 
 module _ (F : Operations) (code : Code) (held : Held) where
   module _ (row column work : ℕ) (room : front code ≤ work) (inside : (row < code.k) × (column < code.m)) where
@@ -166,30 +166,21 @@ module _ (F : Operations) (code : Code) (held : Held) where
     only_least Ambiguous D = (D.1, only_10 D.0 D.1.0 D.1.2)
     only_least Allowance D = absurd D
 
--- a memory whose front was used and then cleared
-pub front_cleared : (code : Code) (size : ℕ) (before used after : List ℕ) → size ≡ front code → length used ≡ length before
-    → ((p : ℕ) → size ≤ p → get_or used p 0 ≡ get_or before p 0) → FrontIs size (λ p. 0) used after → Cleared code before after
-front_cleared code size before used after e long same C = record {
-  long = C.long ∙ long;
-  zeros = λ p l. C.inside p (omega arith);
-  behind = λ p l. C.behind p (omega arith) ∙ same p (omega arith);
-}
-
 -- a memory of which the front was lent and came back as `last`
-pub used_length : (size : ℕ) (before last : List ℕ) → size ≤ length before → length last ≡ size → length (put_mid 0 (size - 0) before last) ≡ length before
+pub used_length : (size : ℕ) (before last : List ℕ) → size ≤ length before → length last ≡ size → length (last ++ drop size before) ≡ length before
 used_length size before last h e = search (rules, places)
 
 pub used_behind : (size : ℕ) (before last : List ℕ) → size ≤ length before → length last ≡ size → (p : ℕ) → size ≤ p
-    → get_or (put_mid 0 (size - 0) before last) p 0 ≡ get_or before p 0
+    → get_or (last ++ drop size before) p 0 ≡ get_or before p 0
 used_behind size before last h e p l = search (rules, places)
 
 pub used_inside : (size : ℕ) (before last : List ℕ) → size ≤ length before → length last ≡ size → (p : ℕ) → p < size
-    → get_or (put_mid 0 (size - 0) before last) p 0 ≡ get_or last p 0
+    → get_or (last ++ drop size before) p 0 ≡ get_or last p 0
 used_inside size before last h e p l = search (rules, places)
 
 -- the only file in the front of a memory
 pub only_in : (F : Operations) (code : Code) (held : Held) (size : ℕ) (before last : List ℕ) → size ≡ front code → size ≤ length before → length last ≡ size
-    → code.k * code.m ≤ front code → OnlyFront F code held last → OnlyIn F code held before (put_mid 0 (size - 0) before last)
+    → code.k * code.m ≤ front code → OnlyFront F code held last → OnlyIn F code held before (last ++ drop size before)
 only_in F code held size before last e room long below O = record {
   fitting = O.fitting;
   fits = O.fits;
@@ -202,3 +193,19 @@ only_in F code held size before last e room long below O = record {
 
 pub file_in_front : (code : Code) → code.k * code.m ≤ front code
 file_in_front code = let m : code.k * code.m * 1 ≤ code.k * code.m * (code.k * code.m + 1) = mul-le-mul_left (code.k * code.m) (omega arith) in omega arith
+
+-- a memory of which the front was let go as zeros
+pub front_zeros : (code : Code) (size : ℕ) (before zeros : List ℕ) → size ≡ front code → size ≤ length before → length zeros ≡ size
+    → ((p : ℕ) → get_or zeros p 0 ≡ 0) → Cleared code before (zeros ++ drop size before)
+front_zeros code size before zeros e l long none = record {
+  long = search (rules, places);
+  zeros = λ p h. search (rules, places);
+  behind = λ p h. search (rules, places);
+}
+
+pub only_answer : (F : Operations) (code : Code) (held : Held) (size : ℕ) (before last : List ℕ) → size ≡ front code → size ≤ length before → length last ≡ size
+    → (r : Result ℕ Refusal) → OnlyDecided F code held last r → OnErr r ((p : ℕ) → get_or last p 0 ≡ 0) → OnlyFile F code held before r (last ++ drop size before)
+only_answer F code held size before last e room long (Ok n) D none =
+    (only_none F code held (length before) (omega arith) last D.0 D.2, D.1, only_in F code held size before last e room long (file_in_front code) D.2)
+only_answer F code held size before last e room long (Err r) D none =
+    (only_least F code held (length before) (omega arith) r D, work_cleared F code held (TwoFit F code held) before _ (front_zeros code size before last e room long none) r D)

@@ -1,5 +1,5 @@
 -- What `all` and `find` over a range of numbers say, place by place.
-use Rattle.std.proofs.Common.{◌≡◌, ℕ, ◌+◌, ◌-◌, ◌<◌, ◌≤◌, Bool, true, false, length, Some, None, Option, ◌≢◌, ap, sym, ◌∙◌, subst, arith}
+use Rattle.std.proofs.Common.{◌≡◌, ℕ, ◌+◌, ◌-◌, ◌<◌, ◌≤◌, Bool, true, false, length, Some, None, Option, sym, ◌∙◌, subst, arith}
 use Rattle.std.specs.Prelude.{MatchOption}
 use Rattle.std.specs.Bool.{MatchBool}
 use Rattle.std.specs.List.{AllWithin, HoldsAt, range_with_len}
@@ -21,7 +21,7 @@ all_of_range P Q n false h =
 
 pub first_of_range : (Yes No : ℕ → Type 0) (a b : ℕ) (r : Option ℕ)
     → MatchOption r (AllWithin No (range_with_len a (b - a)) 0 (length (range_with_len a (b - a))))
-        (λ x. Yes x × (i : ℕ) × (i < length (range_with_len a (b - a))) × HoldsAt (λ y. y ≡ x) (range_with_len a (b - a)) i × AllWithin No (range_with_len a (b - a)) 0 i)
+    (λ x. Yes x × (i : ℕ) × (i < length (range_with_len a (b - a))) × HoldsAt (λ y. y ≡ x) (range_with_len a (b - a)) i × AllWithin No (range_with_len a (b - a)) 0 i)
     → MatchOption r ((i : ℕ) → a ≤ i → i < b → No i) (λ s. (a ≤ s) × (s < b) × Yes s × ((i : ℕ) → a ≤ i → i < s → No i))
 first_of_range Yes No a b None h = λ i l k. in_range No a b (length (range_with_len a (b - a))) (omega (arith, length-range_with_len a (b - a))) h i l (omega (arith, length-range_with_len a (b - a)))
 first_of_range Yes No a b (Some s) h =

@@ -1,20 +1,21 @@
 -- Solutions of the system are the fitting files, and what its form says of them.
-use Rattle.std.proofs.Common.{◌≡◌, ℕ, ◌+◌, ◌*◌, ◌/◌, ◌%◌, ◌<◌, ◌≤◌, Bool, ◌↔◌, List, get_or, Some, None, Option, sym, refl, ap, ◌∙◌, subst, ap₂, inl, inr, arith}
+use Rattle.std.proofs.Common.{◌≡◌, ℕ, ◌+◌, ◌*◌, ◌/◌, ◌%◌, ◌<◌, ◌≤◌, Bool, ◌↔◌, List, get_or, Some, None, Ok, Err, Option, Result, sym, ap, ◌∙◌, subst, ap₂, inl, inr, arith}
 use native.Mathlib.Decide.{dec_lt}
 use Rattle.field.specs.Laws.{Operations, Laws}
 use Rattle.algebra.proofs.Numbers as n
 use Rattle.code.specs.declared.record.Code.{Code}
+use Rattle.code.specs.declared.refusal.Refusal.{Refusal}
 use Rattle.code.specs.Stripe.{Symbols, Held, IsFile, Fits, width}
 use Rattle.theorems.specs.Linear.{IsFactor}
 use Rattle.theorems.proofs.Files.{file_below, same_file, file_from, file_from_has, file_from_is}
 use Rattle.theorems.proofs.Factors.{weighted_sum}
 use Rattle.theorems.proofs.Stripes.{stripe_of, stripe_exists}
-use Rattle.solve.specs.Systems.{entry, Solution}
+use Rattle.solve.specs.Systems.{entry, Solution, Unless}
 use Rattle.code.specs.Held.{ForeignAt}
 use Rattle.encode.specs.Encoding.{cell_count}
-use Rattle.solve.specs.Cells.{Lists, Loaded, TookAll, Contradicts, Meets, Factors, Vector, cell_of, marked}
+use Rattle.solve.specs.Cells.{Lists, Listed, Loaded, TookAll, Contradicts, Meets, Factors, Vector, cell_of}
 use Rattle.solve.specs.Answers.{SharedAt}
-use Rattle.solve.specs.Decisions.{NoForeign, Complete, NoneMeets, FitsSolve, Lone, DifferAt, TwoFit, OnlyFront}
+use Rattle.solve.specs.Decisions.{NoForeign, Built, Complete, NoneMeets, FitsSolve, Lone, DifferAt, TwoFit, OnlyFront}
 use Rattle.solve.proofs.Places.{place_of, place_split, width_positive}
 use Rattle.solve.proofs.Elimination.{base_solves, alone_shared, Differ, free_differs, factor_differs}
 use Rattle.solve.proofs.Loading.{loaded_solution}
@@ -35,7 +36,7 @@ all_factors F L code = (y, λ p l. by_case p l (dec_lt p (code.k * code.m)))
     by_case p l (yes h) = (factor_of F L code p h).1
     by_case p l (no h) = absurd (h l)
 
-module _ (F : Operations) (L : Laws F) (code : Code) (held : Held) (cells : List ℕ) (G : Lists F code held (cell_count code) cells) where
+module _ (F : Operations) (L : Laws F) (code : Code) (held : Held) (cells : List (Option ℕ)) (G : Lists F code held (cell_count code) cells) where
   pub listed_proper : NoForeign F code held
   listed_proper j c inside foreign =
       let at = place_split code.n (width code) j c inside.0 inside.1 in
@@ -43,14 +44,8 @@ module _ (F : Operations) (L : Laws F) (code : Code) (held : Held) (cells : List
       (subst (λ t. ForeignAt F held t ((j * width code + c) % width code)) (sym at.1) (subst (λ t. ForeignAt F held j t) (sym at.2) foreign))
 
   -- a present cell that is listed is a symbol
-  pub listed_symbols : (x : ℕ) → x < cell_count code → get_or cells x 0 < 65536 → get_or cells x 0 < F.q
-  listed_symbols x l present = go (held (x / width code) (x % width code)) refl
-    where
-      go : (h : Option ℕ) → held (x / width code) (x % width code) ≡ h → get_or cells x 0 < F.q
-      go None e = let far : get_or cells x 0 ≡ 65536 = (G x l).0 ∙ ap marked e in absurd (omega arith)
-      go (Some v) e =
-          let is : get_or cells x 0 ≡ v = (G x l).0 ∙ ap marked e in
-          elim (dec_lt v F.q) [ yes h ↦ rw is h | no h ↦ absurd ((G x l).1 (v, e, omega arith)) ]
+  pub listed_symbols : Listed F code cells
+  listed_symbols x v l present = elim (dec_lt v F.q) [ yes h ↦ h | no h ↦ absurd ((G x l).1 (v, sym (G x l).0 ∙ present, omega arith)) ]
 
   -- a file fits exactly if its symbols meet all listed cells
   pub met_fits : (y : ℕ → Symbols) → Factors F code y → (file : List ℕ) → IsFile F code file
@@ -64,30 +59,16 @@ module _ (F : Operations) (L : Laws F) (code : Code) (held : Held) (cells : List
           agrees j c v lj lc e =
               weighted_sum F L code file (stripe_of F L code file I) y I (stripe_exists F L code file I) Y j c lj lc
               ∙ ap₂ (cell_of F code y (λ p. get_or file p 0)) (sym at.1) (sym at.2)
-              ∙ M (j * width code + c) at.0 (rw is below) ∙ is
+              ∙ M (j * width code + c) at.0 v ((G (j * width code + c) at.0).0 ∙ ap₂ held at.1 at.2 ∙ e)
             where
               at : (j * width code + c < code.n * width code) × ((j * width code + c) / width code ≡ j) × ((j * width code + c) % width code ≡ c)
               at = place_split code.n (width code) j c lj lc
 
-              is : get_or cells (j * width code + c) 0 ≡ v
-              is = (G (j * width code + c) at.0).0 ∙ ap marked (ap₂ held at.1 at.2 ∙ e)
-
-              below : v < 65536
-              below = elim (dec_lt v F.q) [ yes h ↦ omega (arith, L.size_bound) | no h ↦ absurd (listed_proper j c (lj, lc) (v, e, omega arith)) ]
-
       back : Fits F code held file → (x : ℕ) → x < cell_count code → Meets F code y cells (λ p. get_or file p 0) x
-      back K x l present = go (held (x / width code) (x % width code)) refl
-        where
-          at : (x / width code < code.n) × (x % width code < width code) × (x / width code * width code + x % width code ≡ x)
-          at = place_of code.n (width code) x (width_positive code) l
-
-          go : (h : Option ℕ) → held (x / width code) (x % width code) ≡ h
-              → cell_of F code y (λ p. get_or file p 0) (x / width code) (x % width code) ≡ get_or cells x 0
-          go None e = let far : get_or cells x 0 ≡ 65536 = (G x l).0 ∙ ap marked e in absurd (omega arith)
-          go (Some v) e =
-              sym (weighted_sum F L code file K.stripe y I K.is_stripe Y (x / width code) (x % width code) at.0 at.1)
-              ∙ K.agrees (x / width code) (x % width code) v at.0 at.1 e
-              ∙ sym ((G x l).0 ∙ ap marked e)
+      back K x l v present =
+          let at = place_of code.n (width code) x (width_positive code) l in
+          sym (weighted_sum F L code file K.stripe y I K.is_stripe Y (x / width code) (x % width code) at.0 at.1)
+          ∙ K.agrees (x / width code) (x % width code) v at.0 at.1 (sym (G x l).0 ∙ present)
 
   file_vector : (file : List ℕ) → IsFile F code file → Vector F code (λ p. get_or file p 0)
   file_vector file I p l = file_below F L code file I p
@@ -107,25 +88,30 @@ module _ (F : Operations) (L : Laws F) (code : Code) (held : Held) (cells : List
       let y = all_factors F L code in
       none y.0 y.1 (λ p. get_or u p 0) (file_vector u K.is_file) ((met_fits y.0 y.1 u K.is_file).1 K)
 
--- all cells are taken up by the system of the data cells
-pub taken_complete : (F : Operations) (L : Laws F) (code : Code) (cells loaded after : List ℕ) (known marks : List Bool)
-    → Loaded code cells (code.k * code.m) loaded known
-    → ((x : ℕ) → x < cell_count code → get_or cells x 0 < 65536 → get_or cells x 0 < F.q)
-    → TookAll F code cells marks (cell_count code) (entry (code.k * code.m) loaded) (entry (code.k * code.m) after) → Complete F code cells after
-taken_complete F L code cells loaded after known marks R symbols T = record {
-  reduced = T.reduced;
-  solutions = λ y Y u U. (
-    λ s. ((T.solutions y Y u U).1 s).1,
-    λ m. (T.solutions y Y u U).0 (loaded_solution code cells F L loaded known R symbols y Y u U m, m),
-  );
-}
+  -- what building the system of the listed cells says of the files
+  pub built_from : {U : Type 0} (w : List ℕ) (r : Result U Refusal) → Unless r (Complete F code cells w) (NoneMeets F code cells) → Built F code held w r
+  built_from w (Ok t) C = complete_solves w C
+  built_from w (Err e) C = rw C.0 (listed_proper, none_fits C.1)
 
-pub taken_none : (F : Operations) (L : Laws F) (code : Code) (cells loaded : List ℕ) (known : List Bool)
-    → Loaded code cells (code.k * code.m) loaded known
-    → ((x : ℕ) → x < cell_count code → get_or cells x 0 < 65536 → get_or cells x 0 < F.q)
-    → Contradicts F code cells (entry (code.k * code.m) loaded) → NoneMeets F code cells
-taken_none F L code cells loaded known R symbols C y Y u U m =
-    C y Y u U (loaded_solution code cells F L loaded known R symbols y Y u U m) m
+-- all cells are taken up by the system of the data cells, or they contradict one another
+pub taken_built : {U : Type 0} (F : Operations) (L : Laws F) (code : Code) (cells : List (Option ℕ)) (n : ℕ) (loaded after : List ℕ) (known marks : List Bool)
+    (r : Result U Refusal) → n ≡ code.k * code.m → Loaded code cells (code.k * code.m) loaded known → Listed F code cells
+    → Unless r (TookAll F code cells marks (cell_count code) (entry n loaded) (entry n after)) (Contradicts F code cells (entry n loaded))
+    → Unless r (Complete F code cells after) (NoneMeets F code cells)
+taken_built F L code cells n loaded after known marks r e R symbols =
+    rw e (by_case r)
+  where
+    by_case : {U : Type 0} (r : Result U Refusal)
+        → Unless r (TookAll F code cells marks (cell_count code) (entry (code.k * code.m) loaded) (entry (code.k * code.m) after))
+        (Contradicts F code cells (entry (code.k * code.m) loaded)) → Unless r (Complete F code cells after) (NoneMeets F code cells)
+    by_case (Ok t) T = record {
+      reduced = T.reduced;
+      solutions = λ y Y u U. (
+        λ s. ((T.solutions y Y u U).1 s).1,
+        λ m. (T.solutions y Y u U).0 (loaded_solution code cells F L loaded known R symbols y Y u U m, m),
+      );
+    }
+    by_case (Err f) C = (C.0, λ y Y u U m. C.1 y Y u U (loaded_solution code cells F L loaded known R symbols y Y u U m) m)
 
 -- What the system decides for a place.
 module _ (F : Operations) (L : Laws F) (code : Code) (held : Held) (w : List ℕ) (S : FitsSolve F code held w) where

@@ -1,10 +1,10 @@
 -- The loops of the elimination, turn by turn.
-use Rattle.std.proofs.Common.{◌≡◌, ℕ, ◌+◌, ◌<◌, ◌≤◌, Bool, true, false, eqb, ◌≢◌, ◌⊎◌, ◌↔◌, List, length, get_or, set, sym, refl, ap, ◌∙◌, ap₂, inl, inr, arith, get_or-set_other, get_or-set_same}
+use Rattle.std.proofs.Common.{◌≡◌, ℕ, ◌+◌, ◌<◌, ◌≤◌, Bool, ◌≢◌, ◌⊎◌, ◌↔◌, List, length, get_or, set, Ok, Err, sym, refl, ap, ◌∙◌, ap₂, inl, inr, arith, get_or-set_other, get_or-set_same}
 use native.Mathlib.Decide.{ℕ_discrete, dec_lt}
-use Rattle.std.proofs.lemmas.Bool.{eqb-true, eqb-false}
 use Rattle.std.proofs.lemmas.List.{length-set}
 use Rattle.field.specs.Laws.{Operations, Laws}
 use Rattle.algebra.proofs.Numbers as n
+use Rattle.code.specs.declared.refusal.Refusal.TheVariants.{Contradiction}
 use Rattle.solve.specs.Rows.{RowIs}
 use Rattle.solve.specs.Systems.{entry, Keeps, Solution, Pivot, Empty, Reduced, KnownRows, Remainder, Installed, Absorbed}
 use Rattle.solve.proofs.Memory.{row_other}
@@ -150,36 +150,41 @@ take_known F L N p A row x lp long below one none e c lc = by_case (ℕ_discrete
         get_or-set_other (set row N x) p c 0 0 q ∙ get_or-set_other row N c x 0 k
         ∙ sym (sub_none F L N (get_or row c 0) (get_or row p 0) (A c) (below c lc) (none c (omega arith) q))
 
--- an equation of which no factor is left
-pub absorbed_none : (F : Operations) (L : Laws F) (N : ℕ) (known : List Bool) (A : ℕ → ℕ → ℕ) (row rest : ℕ → ℕ) (taken : Bool)
-    → Reduced F N A → KnownRows N known A → Remainder F N A row rest → ((c : ℕ) → c < N → rest c ≡ 0) → taken ≡ eqb (rest N) 0
-    → Absorbed F N known row A taken A
-absorbed_none F L N known A row rest taken X K R none t = record {
+-- an equation of which nothing is left
+pub absorbed_zero : {U : Type 0} (u : U) (F : Operations) (L : Laws F) (N : ℕ) (known : List Bool) (A : ℕ → ℕ → ℕ) (row rest : ℕ → ℕ)
+    → Reduced F N A → KnownRows N known A → Remainder F N A row rest → ((c : ℕ) → c < N → rest c ≡ 0) → rest N ≡ 0
+    → Absorbed {U = U} F N known row A (Ok u) A
+absorbed_zero u F L N known A row rest X K R none z = record {
   reduced = X;
   known_rows = K;
-  solutions = λ e u. (λ h. h.0, λ s. (s, (R.same u s).1 (keeps_zeros F L N rest u (zeros (eqb-true (rest N) 0 (sym t ∙ e))))));
-  contradiction = λ e u s h. eqb-false (rest N) 0 (sym t ∙ e) (keeps_right F L N rest u none ((R.same u s).0 h));
+  outcome = λ v. (λ h. h.0, λ s. (s, (R.same v s).1 (keeps_zeros F L N rest v zeros)));
 }
   where
-    zeros : rest N ≡ 0 → (c : ℕ) → c < N + 1 → rest c ≡ 0
-    zeros z c l = elim (ℕ_discrete c N) [ yes e ↦ ap rest e ∙ z | no d ↦ none c (omega arith) ]
+    zeros : (c : ℕ) → c < N + 1 → rest c ≡ 0
+    zeros c l = elim (ℕ_discrete c N) [ yes e ↦ ap rest e ∙ z | no d ↦ none c (omega arith) ]
+
+-- an equation of which only a right side is left
+pub absorbed_not : {U : Type 0} (F : Operations) (L : Laws F) (N : ℕ) (known : List Bool) (A : ℕ → ℕ → ℕ) (row rest : ℕ → ℕ)
+    → Reduced F N A → KnownRows N known A → Remainder F N A row rest → ((c : ℕ) → c < N → rest c ≡ 0) → (rest N ≡ 0 → ⊥)
+    → Absorbed {U = U} F N known row A (Err Contradiction) A
+absorbed_not F L N known A row rest X K R none ne = record {
+  reduced = X;
+  known_rows = K;
+  outcome = (refl, λ v s h. ne (keeps_right F L N rest v none ((R.same v s).0 h)));
+}
 
 -- an equation that becomes that of symbol c
-pub absorbed_some : (F : Operations) (L : Laws F) (N : ℕ) (known : List Bool) (A B : ℕ → ℕ → ℕ) (row rest : ℕ → ℕ) (c : ℕ)
+pub absorbed_some : {U : Type 0} (t : U) (F : Operations) (L : Laws F) (N : ℕ) (known : List Bool) (A B : ℕ → ℕ → ℕ) (row rest : ℕ → ℕ) (c : ℕ)
     → Reduced F N A → KnownRows N known A → Remainder F N A row rest → c < N → (rest c ≡ 0 → ⊥) → Installed F N c rest A B
-    → Absorbed F N known row A true B
-absorbed_some F L N known A B row rest c X K R lc ne I = record {
+    → Absorbed {U = U} F N known row A (Ok t) B
+absorbed_some t F L N known A B row rest c X K R lc ne I = record {
   reduced = install_reduced F L N A B rest c X lc R.below R.free ne I.here I.others;
   known_rows = kept;
-  solutions = λ e u. (λ h. (moved u).0 (h.0, (R.same u h.0).0 h.1), λ s. (((moved u).1 s).0, (R.same u ((moved u).1 s).0).1 ((moved u).1 s).1));
-  contradiction = λ e. absurd (differ e);
+  outcome = λ u. (λ h. (moved u).0 (h.0, (R.same u h.0).0 h.1), λ s. (((moved u).1 s).0, (R.same u ((moved u).1 s).0).1 ((moved u).1 s).1));
 }
   where
     moved : (u : ℕ → ℕ) → ((Solution F N A u × Keeps F N rest u) ↔ Solution F N B u)
     moved = install_solutions F L N A B rest c X lc R.below R.free ne I.here I.others
-
-    differ : ◌≡◌ {A = Bool} true false → ⊥
-    differ e = let z : ◌≡◌ {A = ℕ} 0 1 = cc in omega arith
 
     empty : Empty N A c
     empty = was_empty F L N A B rest c X lc R.below R.free ne I.here I.others

@@ -1,5 +1,5 @@
 -- What the inner functions of the solver answer.
-use Rattle.std.specs.Prelude.{◌≡◌, ℕ, ◌*◌, ◌<◌, ◌≤◌, ◌⊎◌, ◌↔◌, List, length, Some, None, Ok, Err, Option, Result, ◌≢◌, slice_index}
+use Rattle.std.specs.Prelude.{◌≡◌, ℕ, ◌*◌, ◌<◌, ◌≤◌, ◌⊎◌, ◌↔◌, List, Some, None, Ok, Err, Option, Result, ◌≢◌, slice_index}
 use Rattle.field.specs.Laws.{Operations}
 use Rattle.code.specs.declared.record.Code.{Code}
 use Rattle.code.specs.declared.refusal.Refusal.{Refusal}
@@ -16,13 +16,13 @@ abbrev pub NoForeign : Operations → Code → Held → Type 0
 NoForeign F code held = (j c : ℕ) → Inside code j c → ForeignAt F held j c → ⊥
 
 -- the solutions are the vectors that meet all listed cells
-pub record Complete (F : Operations) (code : Code) (cells w : List ℕ) : Type 0 where
+pub record Complete (F : Operations) (code : Code) (cells : List (Option ℕ)) (w : List ℕ) : Type 0 where
   pub reduced : Reduced F (code.k * code.m) (entry (code.k * code.m) w)
   pub solutions : (y : ℕ → Symbols) → Factors F code y → (u : ℕ → ℕ) → Vector F code u
       → (Solution F (code.k * code.m) (entry (code.k * code.m) w) u ↔ ((x : ℕ) → x < cell_count code → Meets F code y cells u x))
 
 -- no vector meets all listed cells
-abbrev pub NoneMeets : Operations → Code → List ℕ → Type 0
+abbrev pub NoneMeets : Operations → Code → List (Option ℕ) → Type 0
 NoneMeets F code cells =
     (y : ℕ → Symbols) → Factors F code y → (u : ℕ → ℕ) → Vector F code u
     → ((x : ℕ) → x < cell_count code → Meets F code y cells u x) → ⊥
@@ -48,9 +48,9 @@ Fails F code held Open Contradiction = NoForeign F code held × ((u : List ℕ) 
 Fails F code held Open Ambiguous = NoForeign F code held × Open
 Fails F code held Open Allowance = ⊥
 
--- What building the system answers: its N symbols, with the fitting files for solutions, or why there is no system.
-abbrev pub Built : Operations → Code → Held → List ℕ → Result ℕ Refusal → Type 0
-Built F code held w (Ok n) = (n ≡ code.k * code.m) × FitsSolve F code held w
+-- What building the system answers: the fitting files are its solutions, or why there is no system.
+abbrev pub Built : {U : Type 0} → Operations → Code → Held → List ℕ → Result U Refusal → Type 0
+Built F code held w (Ok u) = FitsSolve F code held w
 Built F code held w (Err e) = Fails F code held ⊥ e
 
 -- the right side of equation p, if its only factor is the one at p
@@ -83,9 +83,3 @@ pub record OnlyFront (F : Operations) (code : Code) (held : Held) (w : List ℕ)
 abbrev pub OnlyDecided : Operations → Code → Held → List ℕ → Result ℕ Refusal → Type 0
 OnlyDecided F code held w (Ok n) = NoForeign F code held × (n ≡ code.k * code.m) × OnlyFront F code held w
 OnlyDecided F code held w (Err e) = Fails F code held (TwoFit F code held) e
-
--- the first numbers of a memory are those of f, and the others are as before
-pub record FrontIs (size : ℕ) (f : ℕ → ℕ) (before after : List ℕ) : Type 0 where
-  pub long : length after ≡ length before
-  pub inside : (p : ℕ) → p < size → slice_index after p ≡ f p
-  pub behind : (p : ℕ) → size ≤ p → slice_index after p ≡ slice_index before p

@@ -1,7 +1,9 @@
 -- Systems of linear equations: N equations, each with N factors and a right side.
-use Rattle.std.specs.Prelude.{◌≡◌, ℕ, ◌+◌, ◌*◌, ◌<◌, Bool, true, false, ◌⊎◌, ◌↔◌, List, Some, None, Option, ◌≢◌, slice_index, slice_index_or}
+use Rattle.std.specs.Prelude.{◌≡◌, ℕ, ◌+◌, ◌*◌, ◌<◌, Bool, true, false, ◌⊎◌, ◌↔◌, List, Some, None, Ok, Err, Option, Result, ◌≢◌, slice_index, slice_index_or}
 use Rattle.field.specs.Laws.{Operations}
 use Rattle.algebra.specs.Sums.{sum}
+use Rattle.code.specs.declared.refusal.Refusal.{Refusal}
+use Rattle.code.specs.declared.refusal.Refusal.TheVariants.{Contradiction}
 
 -- the numbers in work memory: equation p stands from p·(N + 1) on, its factors first and then its right side
 abbrev pub entry : ℕ → List ℕ → ℕ → ℕ → ℕ
@@ -44,13 +46,18 @@ pub record Installed (F : Operations) (N c : ℕ) (row : ℕ → ℕ) (A B : ℕ
   pub here : (j : ℕ) → j < N + 1 → B c j ≡ F.mul (F.inv (row c)) (row j)
   pub others : (p j : ℕ) → p < N → j < N + 1 → (p ≢ c) → B p j ≡ F.sub (A p j) (F.mul (A p c) (B c j))
 
+-- What an attempt has: one fact where it succeeds, and the other where it is declined for a contradiction.
+abbrev pub Unless : {U : Type 0} → Result U Refusal → Type 0 → Type 0 → Type 0
+Unless (Ok u) Done Not = Done
+Unless (Err e) Done Not = (e ≡ Contradiction) × Not
+
 -- A new equation goes into the system: taken, the solutions are those that keep it too; otherwise there are none.
-pub record Absorbed (F : Operations) (N : ℕ) (known : List Bool) (row : ℕ → ℕ)
-    (A : ℕ → ℕ → ℕ) (taken : Bool) (B : ℕ → ℕ → ℕ) : Type 0 where
+pub record Absorbed {U : Type 0} (F : Operations) (N : ℕ) (known : List Bool) (row : ℕ → ℕ)
+    (A : ℕ → ℕ → ℕ) (taken : Result U Refusal) (B : ℕ → ℕ → ℕ) : Type 0 where
   pub reduced : Reduced F N B
   pub known_rows : KnownRows N known B
-  pub solutions : taken ≡ true → (u : ℕ → ℕ) → ((Solution F N A u × Keeps F N row u) ↔ Solution F N B u)
-  pub contradiction : taken ≡ false → (u : ℕ → ℕ) → Solution F N A u → Keeps F N row u → ⊥
+  pub outcome : Unless taken ((u : ℕ → ℕ) → ((Solution F N A u × Keeps F N row u) ↔ Solution F N B u))
+      ((u : ℕ → ℕ) → Solution F N A u → Keeps F N row u → ⊥)
 
 -- The first factor of an equation that is not 0, or that there is none.
 abbrev pub FirstFactor : ℕ → List ℕ → Option ℕ → Type 0

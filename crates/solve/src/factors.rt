@@ -6,15 +6,17 @@ ghost use Rattle.encode.specs.Encoding.{in_memory};
 ghost use Rattle.solve.specs.Factors.{ColumnOf, ColumnTable, Weight, IsEquation};
 
 use crate::numbers::times;
-use code::Code;
+use code::{Code, MOST_CELLS};
 use encode::encode;
 use field::{Field, power};
 
+// The numbers of a table of columns: 64 for each of up to 64 nodes.
+pub(crate) const TABLE: usize = 4096;
+
 // Encodes the file that is 1 at data node j, column 0, and 0 elsewhere.
-fn encode_unit<F: Field>(code: &Code, j: usize, file: &mut [u16], cells: &mut [u16])
+fn encode_unit<F: Field>(code: &Code, j: usize, file: &mut [u16], cells: &mut [u16; MOST_CELLS])
     requires node { j < code.now.k }
     requires file { length file.old ≡ code.now.k * code.now.m }
-    requires cells { length cells.old ≡ 704 }
     ensures { IsFactor F.ops code.now (j * code.now.m) (in_memory code.now cells.new) }
 {
     file.fill(0);
@@ -27,13 +29,11 @@ fn unit_column<F: Field>(
     code: &Code,
     j: usize,
     file: &mut [u16],
-    cells: &mut [u16],
-    table: &mut [u16],
+    cells: &mut [u16; MOST_CELLS],
+    table: &mut [u16; TABLE],
 )
     requires node { j < code.now.k }
     requires file { length file.old ≡ code.now.k * code.now.m }
-    requires cells { length cells.old ≡ 704 }
-    requires table { length table.old ≡ 4096 }
     ensures made { ColumnOf F.ops code.now j table.new }
     ensures kept { (v i : ℕ) → i < 64 → (i ≢ j)
         → slice_index table.new (v * 64 + i) ≡ slice_index table.old (v * 64 + i) }
@@ -49,12 +49,10 @@ fn unit_column<F: Field>(
 pub(crate) fn column_table<F: Field>(
     code: &Code,
     file: &mut [u16],
-    cells: &mut [u16],
-    table: &mut [u16],
+    cells: &mut [u16; MOST_CELLS],
+    table: &mut [u16; TABLE],
 )
     requires file { length file.old ≡ code.now.k * code.now.m }
-    requires cells { length cells.old ≡ 704 }
-    requires table { length table.old ≡ 4096 }
     ensures { ColumnTable F.ops code.now table.new }
 {
     for j in 0..code.data_nodes() {
@@ -81,7 +79,7 @@ fn weight<F: Field>(code: &Code, v: usize, c: usize, t: usize) -> (usize, u32)
 // Puts the factors of the places (j, t) into a row: `scale` times what the table has for node w.
 fn put_factors<F: Field>(
     code: &Code,
-    table: &[u16],
+    table: &[u16; TABLE],
     w: usize,
     scale: u32,
     t: usize,
@@ -89,7 +87,6 @@ fn put_factors<F: Field>(
 )
     requires node { w < code.now.n }
     requires data_column { t < code.now.m }
-    requires table { length table.now ≡ 4096 }
     requires row { code.now.k * code.now.m ≤ length row.old }
     ensures made { (j : ℕ) → j < code.now.k
         → slice_index row.new (j * code.now.m + t) ≡ F.ops.mul scale (slice_index table.now (w * 64 + j)) }
@@ -105,15 +102,14 @@ fn put_factors<F: Field>(
 // Makes a row the equation of the cell (v, c) that holds the value.
 pub(crate) fn equation<F: Field>(
     code: &Code,
-    table: &[u16],
+    table: &[u16; TABLE],
     v: usize,
     c: usize,
-    value: u32,
+    value: u16,
     row: &mut [u32],
 )
     requires node { v < code.now.n }
     requires column { c < width code.now }
-    requires long { length table.now ≡ 4096 }
     requires table { ColumnTable F.ops code.now table.now }
     requires row { length row.old ≡ code.now.k * code.now.m + 1 }
     ensures { IsEquation F.ops code.now v c value row.new }
@@ -122,5 +118,5 @@ pub(crate) fn equation<F: Field>(
         let (w, scale) = weight::<F>(code, v, c, t);
         put_factors::<F>(code, table, w, scale, t, row);
     }
-    row[code.file_length()] = value;
+    row[code.file_length()] = u32::from(value);
 }

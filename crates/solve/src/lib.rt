@@ -9,6 +9,7 @@ ghost use Rattle.solve.specs.Answers.{SharedSymbol, OnlyFile};
 
 mod cells;
 mod factors;
+mod front;
 mod numbers;
 mod reading;
 mod rows;
@@ -17,7 +18,7 @@ mod taking;
 
 use code::{Code, Refusal};
 use field::Field;
-use reading::{clear_front, decide, find_only};
+use reading::{decide, find_only};
 use store::Store;
 
 // The symbol that all fitting files share at the place (row, column). Declined with 4 if the work memory is below
@@ -43,9 +44,7 @@ pub fn shared_symbol<F: Field, S: Store>(
         return Err(Refusal::Outside);
     }
     let place = row * code.data_columns() + column;
-    let answer = decide::<F, S>(code, store, place, &mut work[0..size]);
-    clear_front(work, size);
-    answer
+    decide::<F, S>(code, store, place, &mut work[..size])
 }
 
 // Leaves the only fitting file in the first k·m numbers of the work memory, with zeros in the rest of the front, and
@@ -63,11 +62,5 @@ pub fn only_file<F: Field, S: Store>(
     if work.len() < size {
         return Err(Refusal::Work);
     }
-    match find_only::<F, S>(code, store, &mut work[0..size]) {
-        Ok(count) => Ok(count),
-        Err(e) => {
-            clear_front(work, size);
-            Err(e)
-        }
-    }
+    find_only::<F, S>(code, store, &mut work[..size])
 }

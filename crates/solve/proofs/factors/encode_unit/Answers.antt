@@ -1,4 +1,4 @@
-use Rattle.std.proofs.Common.{◌≡◌, ◌*◌, ap, arith, rules}
+use Rattle.std.proofs.Common.{rules, ◌≡◌, ◌*◌, ap, arith, rules}
 use Rattle.code.proofs.Places.{place_below}
 use Rattle.solve.proofs.UnitFiles.{unit_encoded}
 use Rattle.solve.proofs.factors.encode_unit.Goals as goal
@@ -11,4 +11,4 @@ bounds-file-j g c =
 pub returns : goal.returns
 returns g c =
     unit_encoded g.F.Field.ops g.met.F.Field.laws c.args.code.now c.args.j c.data_columns.result c.fill.new.self
-    c.args.cells.now c.encode.new.cells c.encode.result c.data_columns.ensures c.requires.node (omega arith) (λ o l. search rules) c.requires.cells c.encode.ensures
+    c.args.cells.now c.encode.new.cells c.encode.result c.data_columns.ensures c.requires.node (omega arith) (λ o l. search rules) (search rules) c.encode.ensures

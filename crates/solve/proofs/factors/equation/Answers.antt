@@ -12,6 +12,7 @@ loop-t-preserved g c =
 pub returns : goal.returns
 returns g c =
     let code = c.args.code.now in
-    subst (λ t. IsEquation g.F.Field.ops code c.args.v c.args.c c.args.value (set c.loop-t.row t c.args.value)) (sym c.file_length.ensures)
-    (equation_made g.F.Field.ops code c.args.v c.args.c c.args.value c.loop-t.row (omega arith)
-    (λ j s y lj ls Y. c.loop-t.invariant j s y lj (omega arith) Y))
+    subst (λ t. IsEquation g.F.Field.ops code c.args.v c.args.c t (set c.loop-t.row c.file_length.result c.from.result)) c.from.ensures
+    (subst (λ t. IsEquation g.F.Field.ops code c.args.v c.args.c c.from.result (set c.loop-t.row t c.from.result)) (sym c.file_length.ensures)
+    (equation_made g.F.Field.ops code c.args.v c.args.c c.from.result c.loop-t.row (omega arith)
+    (λ j s y lj ls Y. c.loop-t.invariant j s y lj (omega arith) Y)))

@@ -1,45 +1,27 @@
-use Rattle.std.proofs.Common.{false, replicate, arith, rules}
+use Rattle.std.proofs.Common.{false, replicate, sym, ◌∙◌, subst}
 use Rattle.std.proofs.lemmas.List.{get_or-replicate}
-use Rattle.solve.proofs.Places.{few_symbols}
-use Rattle.solve.proofs.Loading.{load_none, loaded_reduced, loaded_known, loaded_met}
-use Rattle.solve.proofs.Deciding.{taken_complete, taken_none}
+use Rattle.solve.specs.Systems.{entry, Reduced}
+use Rattle.solve.specs.Cells.{DataMet}
+use Rattle.solve.proofs.Loading.{load_none, loaded_reduced, loaded_met}
+use Rattle.solve.proofs.Deciding.{taken_built}
 use Rattle.solve.proofs.reading.build.Goals as goal
 
-pub slice_bounds-file-end : goal.slice_bounds-file-end
-slice_bounds-file-end g c = omega (arith, few_symbols c.args.code.now)
+pub load-requires-clause-blank : goal.load-requires-clause-blank
+load-requires-clause-blank g c =
+    load_none c.args.code.now c.args.cells.now c.clear.new.self.numbers.now (replicate 504 false) (λ i l. c.clear.ensures.zeros i) (λ p l. get_or-replicate 504 p false false l)
 
-pub slice_bounds-row-end : goal.slice_bounds-row-end
-slice_bounds-row-end g c = omega (arith, few_symbols c.args.code.now)
+pub take_cells-requires-clause-reduced : goal.take_cells-requires-clause-reduced
+take_cells-requires-clause-reduced g c =
+    subst (λ t. Reduced g.F.Field.ops t (entry t c.load.new.equations.numbers.now)) (sym (c.load.ensures.size ∙ c.clear.ensures.size ∙ c.requires.length))
+    (loaded_reduced c.args.code.now c.args.cells.now g.F.Field.ops g.met.F.Field.laws c.load.new.equations.numbers.now c.load.new.known c.load.ensures.loaded c.requires.symbols)
 
-pub load-requires : goal.load-requires
-load-requires g c =
-    record {
-      cells = c.requires.cells;
-      front = omega arith;
-      marks = search rules;
-      blank = load_none c.args.code.now c.args.cells.now c.fill.new.self (replicate 504 false) (λ i l. search rules) (λ p l. get_or-replicate 504 p false false l);
-    }
+pub take_cells-requires-clause-met : goal.take_cells-requires-clause-met
+take_cells-requires-clause-met g c =
+    subst (λ t. DataMet g.F.Field.ops c.args.code.now c.args.cells.now (entry t c.load.new.equations.numbers.now)) (sym (c.load.ensures.size ∙ c.clear.ensures.size ∙ c.requires.length))
+    (loaded_met c.args.code.now c.args.cells.now g.F.Field.ops g.met.F.Field.laws c.load.new.equations.numbers.now c.load.new.known c.load.ensures.loaded c.requires.symbols)
 
-pub take_cells-requires : goal.take_cells-requires
-take_cells-requires g c =
-    record {
-      cells = c.requires.cells;
-      symbols = c.requires.symbols;
-      long = search rules;
-      table = c.column_table.ensures;
-      marks = search rules;
-      row = search rules;
-      front = omega arith;
-      marked = loaded_known c.args.code.now c.args.cells.now g.F.Field.ops g.met.F.Field.laws c.load.new.work c.load.new.known c.load.ensures c.requires.symbols;
-      reduced = loaded_reduced c.args.code.now c.args.cells.now g.F.Field.ops g.met.F.Field.laws c.load.new.work c.load.new.known c.load.ensures c.requires.symbols;
-      met = loaded_met c.args.code.now c.args.cells.now g.F.Field.ops g.met.F.Field.laws c.load.new.work c.load.new.known c.load.ensures c.requires.symbols;
-    }
-
-pub returns : goal.returns
-returns g c =
-    record {
-      all = λ e. taken_complete g.F.Field.ops g.met.F.Field.laws c.args.code.now c.args.cells.now c.load.new.work c.take_cells.new.work
-          c.load.new.known c.load.new.known c.load.ensures c.requires.symbols (c.take_cells.ensures.all e);
-      none = λ e. taken_none g.F.Field.ops g.met.F.Field.laws c.args.code.now c.args.cells.now c.load.new.work
-          c.load.new.known c.load.ensures c.requires.symbols (c.take_cells.ensures.none e);
-    }
+pub returns-clause-built : goal.returns-clause-built
+returns-clause-built g c =
+    taken_built g.F.Field.ops g.met.F.Field.laws c.args.code.now c.args.cells.now c.load.new.equations.n c.load.new.equations.numbers.now
+    c.take_cells.new.equations.numbers.now c.load.new.known c.load.new.known c.take_cells.result (c.load.ensures.size ∙ c.clear.ensures.size ∙ c.requires.length)
+    c.load.ensures.loaded c.requires.symbols c.take_cells.ensures.took

@@ -1,5 +1,8 @@
+use Rattle.std.proofs.Common.{◌≡◌, length}
 use Rattle.solve.specs.Cells.{Loaded}
 use Rattle.solve.proofs.taking.load.Given as goal
 
 abbrev pub invariant-loop-p : goal.invariant-loop-p
-invariant-loop-p l = Loaded l.code l.cells l.p l.work l.known
+invariant-loop-p l =
+    (l.equations.n ≡ l.initial.equations.n) × (l.equations.numbers.ghost_name ≡ l.initial.equations.numbers.ghost_name)
+    × (length l.known ≡ 504) × Loaded l.code l.cells l.p l.equations.numbers.now l.known

@@ -1,50 +1,27 @@
-use Rattle.std.proofs.Common.{◌≡◌, ◌+◌, ◌*◌, ◌/◌, ◌%◌, ◌<◌, length, get_or, sym, subst, arith}
+use Rattle.std.proofs.Common.{◌/◌, ◌%◌, ◌<◌, sym, subst, arith}
 use Rattle.code.specs.Stripe.{width}
-use Rattle.solve.specs.Systems.{entry, Reduced, KnownRows}
-use Rattle.solve.proofs.Places.{few_cells, few_symbols, place_of, width_positive}
+use Rattle.solve.specs.Systems.{entry}
+use Rattle.solve.specs.Cells.{Took}
+use Rattle.solve.proofs.Places.{place_of, width_positive}
 use Rattle.solve.proofs.Meeting.{took_cell, equation_below}
 use Rattle.solve.proofs.taking.take_cell.Goals as goal
 
-pub bounds-cells-x : goal.bounds-cells-x
-bounds-cells-x g c = omega (arith, few_cells c.args.code.now)
-
-pub bounds-cells-x-2 : goal.bounds-cells-x-2
-bounds-cells-x-2 g c = omega (arith, few_cells c.args.code.now)
-
-pub equation-requires : goal.equation-requires
-equation-requires g c =
+pub absorb-requires-clause-below : goal.absorb-requires-clause-below
+absorb-requires-clause-below g c = λ i l.
     let code = c.args.code.now in
     let at = place_of code.n (width code) c.args.x (width_positive code) c.requires.inside in
-    let w : width c.args.code.now ≡ c.columns-columns.result = sym c.columns-columns.ensures in
-    record {
-      node = subst (λ t. c.args.x / t < code.n) w at.0;
-      column = subst (λ t. c.args.x % t < width code) w at.1;
-      long = c.requires.long;
-      table = c.requires.table;
-      row = c.requires.row;
-    }
+    let w = sym c.columns-columns.ensures in
+    equation_below g.F.Field.ops g.met.F.Field.laws code (c.args.x / c.columns-columns.result) (c.args.x % c.columns-columns.result)
+    c.in-Some.value c.equation.new.row (subst (λ t. c.args.x / t < code.n) w at.0) (subst (λ t. c.args.x % t < width code) w at.1)
+    (c.requires.symbols c.args.x c.in-Some.value c.requires.inside c.in-Some.is) c.equation.ensures i (omega (arith, c.requires.length))
 
-pub absorb-requires : goal.absorb-requires
-absorb-requires g c =
+pub returns-clause-took : goal.returns-clause-took
+returns-clause-took g c =
     let F = g.F.Field.ops in
     let code = c.args.code.now in
-    let at = place_of code.n (width code) c.args.x (width_positive code) c.requires.inside in
-    let w : width c.args.code.now ≡ c.columns-columns.result = sym c.columns-columns.ensures in
-    let e : c.args.code.now.k * c.args.code.now.m ≡ c.file_length.result = sym c.file_length.ensures in
-    record {
-      size = omega (arith, few_symbols code);
-      front = subst (λ t. length c.args.work.now ≡ t * (t + 1)) e c.requires.front;
-      row = omega arith;
-      known = omega (arith, few_symbols code);
-      marked = subst (λ t. KnownRows t c.args.known.now (entry t c.args.work.now)) e c.requires.marked;
-      reduced = subst (λ t. Reduced F t (entry t c.args.work.now)) e c.requires.reduced;
-      below = λ i l. equation_below F g.met.F.Field.laws code (c.args.x / c.columns-columns.result) (c.args.x % c.columns-columns.result)
-          (get_or c.args.cells.now c.args.x 0) c.equation.new.row (subst (λ t. c.args.x / t < code.n) w at.0) (subst (λ t. c.args.x % t < width code) w at.1)
-          (c.requires.symbol (omega arith)) c.equation.ensures i (omega arith);
-    }
-
-pub returns : goal.returns
-returns g c =
-    took_cell g.F.Field.ops g.met.F.Field.laws c.args.code.now c.args.cells.now c.args.known.now c.args.x c.file_length.result
-    c.columns-columns.result c.equation.new.row (λ n. entry n c.args.work.now) (λ n. entry n c.absorb.new.work) c.absorb.result
-    c.file_length.ensures c.columns-columns.ensures (omega arith) c.equation.ensures c.absorb.ensures
+    let cells = c.args.cells.now in
+    let before = c.args.equations.now.numbers.now in
+    let after = c.absorb.new.self.numbers.now in
+    subst (λ t. Took F code cells c.args.known.now c.args.x (entry t before) c.absorb.result (entry t after)) (sym c.requires.length)
+    (took_cell F g.met.F.Field.laws code cells c.args.known.now c.args.x c.args.equations.now.n c.columns-columns.result c.in-Some.value c.equation.new.row
+    (λ n. entry n before) (λ n. entry n after) c.absorb.result c.requires.length c.columns-columns.ensures c.in-Some.is c.equation.ensures c.absorb.ensures.absorbed)
