@@ -1,0 +1,65 @@
+// What the present cells of a stripe say of its file, found by eliminating all symbols from all present cells.
+use code::{Code, Refusal};
+use crate::elimination::{Solved, eliminate};
+use encode::encode;
+use field::Field;
+use std::alloc::{AllocError, Global};
+
+// The stripes of the files that are 1 at one symbol and 0 elsewhere, one behind another.
+fn unit_stripes<F: Field>(alloc: Global, code: &Code) -> Result<Vec<u16>, AllocError> {
+    let count = code.nodes() * code.columns();
+    let length = code.file_length();
+    let mut file = vec![in alloc; 0u16; length]?;
+    let mut stripes = vec![in alloc; 0u16; count * length]?;
+    for (p, stripe) in stripes.chunks_exact_mut(count).enumerate() {
+        file.fill(0);
+        if let Some(symbol) = file.get_mut(p) {
+            *symbol = 1;
+        }
+        let _ = encode::<F>(code, &file, stripe);
+    }
+    Ok(stripes)
+}
+
+// An equation for each present cell: the factors of the symbols in it, and what it holds.
+fn equations_of<F: Field>(alloc: Global, code: &Code, held: &[u32]) -> Result<Vec<u16>, AllocError> {
+    let count = code.nodes() * code.columns();
+    let stripes = unit_stripes::<F>(alloc, code)?;
+    let mut equations = Vec::with_capacity(alloc, count * (code.file_length() + 1))?;
+    for (x, number) in held.iter().enumerate().take(count) {
+        if let Ok(value) = u16::try_from(*number) {
+            for stripe in stripes.chunks_exact(count) {
+                equations.push(stripe[x])?;
+            }
+            equations.push(value)?;
+        }
+    }
+    Ok(equations)
+}
+
+/// Solves for what the cells hold, cell (j, c) at j·(m + a) + c; a number above 65,535 stands for a lost cell. Refused
+/// with 7, and the first such cell, where a present cell holds no symbol of the field, and with 9 where no file fits.
+pub fn solve_cells<F: Field>(
+    alloc: Global,
+    code: &Code,
+    held: &[u32],
+) -> Result<Result<Solved, Refusal>, AllocError> {
+    let columns = code.columns();
+    let count = code.nodes() * columns;
+    let foreign = held
+        .iter()
+        .take(count)
+        .position(|number| (F::SIZE..65536).contains(number));
+    if let Some(x) = foreign {
+        return Ok(Err(Refusal::Foreign {
+            node: x / columns,
+            column: x % columns,
+        }));
+    }
+    let equations = equations_of::<F>(alloc, code, held)?;
+    let solved = eliminate::<F>(equations, code.file_length());
+    if solved.contradicts() {
+        return Ok(Err(Refusal::Contradiction));
+    }
+    Ok(Ok(solved))
+}
