@@ -4,42 +4,14 @@
 ghost use Rattle.std.specs.Prelude.{◌<◌};
 
 use field::{Bytes, Field, Prime, power};
-use std::{fmt, io};
+use std::io;
+use trial::Tally;
 
 // Both operands of the compared sums and products run from 0 to 299, so past the size of each field.
-const OPERANDS: u16 = 300;
+const LAST: u16 = 299;
 
-// How many values were compared, and how many of them differed.
-#[derive(Drop)]
-struct Tally {
-    compared: u32,
-    differing: u32,
-}
-
-impl Tally {
-    fn new() -> Self {
-        Tally {
-            compared: 0,
-            differing: 0,
-        }
-    }
-
-    // Counts one comparison.
-    fn compare(&mut self, value: u16, expected: u16) {
-        self.compared = self.compared.saturating_add(1);
-        if value != expected {
-            self.differing = self.differing.saturating_add(1);
-        }
-    }
-}
-
-impl fmt::Display for Tally {
-    fn fmt<W: fmt::Write>(&self, f: &mut fmt::Formatter<W>) -> fmt::Result {
-        let compared = self.compared;
-        let differing = self.differing;
-        write!(f, "{compared} compared, {differing} differ")
-    }
-}
+// How many powers of an operand are compared.
+const EXPONENTS: usize = 40;
 
 // The sum and the product of a field, computed the slow way.
 trait Slow {
@@ -88,7 +60,8 @@ impl Slow for Bytes {
 
 // `times` additions of v to u, each reduced modulo 257.
 fn add_repeatedly(u: u16, v: u16, times: u16) -> u16
-    requires { (u < 257) × (v < 257) }
+    requires first { u < 257 }
+    requires second { v < 257 }
     ensures { result < 257 }
 {
     let mut total = u;
@@ -119,37 +92,19 @@ fn below(size: u16, u: u16) -> u16
     if u < size { u } else { 0 }
 }
 
-// Every sum of two operands against the slow sum.
-fn compare_sums<F: Field + Slow>() -> Tally {
+// What a computation gives for each pair of operands up to the last, against what is expected of it.
+fn compare_pairs<C: Fn(u16, u16) -> u16, E: Fn(u16, u16) -> u16>(
+    last: u16,
+    computed: C,
+    expected: E,
+) -> Tally
+    requires computed { C.IsAlwaysCallable computed }
+    requires expected { E.IsAlwaysCallable expected }
+{
     let mut tally = Tally::new();
-    for u in 0..OPERANDS {
-        for v in 0..OPERANDS {
-            tally.compare(F::sum(u, v), F::slow_sum(u, v));
-        }
-    }
-    tally
-}
-
-// Every product of two operands against the slow product.
-fn compare_products<F: Field + Slow>() -> Tally {
-    let mut tally = Tally::new();
-    for u in 0..OPERANDS {
-        for v in 0..OPERANDS {
-            tally.compare(F::product(u, v), F::slow_product(u, v));
-        }
-    }
-    tally
-}
-
-// Every symbol u against u + v - v, at every symbol v.
-fn compare_differences<F: Field>() -> Tally {
-    let mut tally = Tally::new();
-    for u in 0..F::SIZE {
-        for v in 0..F::SIZE {
-            tally.compare(
-                F::difference(F::sum(u as u16, v as u16), v as u16),
-                u as u16,
-            );
+    for u in 0..=last {
+        for v in 0..=last {
+            tally.compare(computed(u, v), expected(u, v));
         }
     }
     tally
@@ -164,12 +119,12 @@ fn compare_inverses<F: Field>() -> Tally {
     tally
 }
 
-// The powers of every operand with the exponents 0 to 39 against slow products, one after another.
+// The powers of every operand against slow products, one after another.
 fn compare_powers<F: Field + Slow>() -> Tally {
     let mut tally = Tally::new();
-    for u in 0..OPERANDS {
+    for u in 0..=LAST {
         let mut expected = 1;
-        for e in 0..40usize {
+        for e in 0..EXPONENTS {
             tally.compare(power::<F>(u, e), expected);
             expected = F::slow_product(u, expected);
         }
@@ -180,7 +135,7 @@ fn compare_powers<F: Field + Slow>() -> Tally {
 // A product, an inverse, and what operands at and above the field's size give.
 fn print_worked_values<F: Field>(rt: &HostRuntime, u: u16, v: u16, w: u16) -> io::Result<()> {
     let size = F::SIZE;
-    let above = if size < 65536 { size as u16 } else { 65535 };
+    let above = u16::try_from(size).unwrap_or(u16::MAX);
     println!(rt; "Worked values:")?;
     println!(rt; "  {u} times {v} is {}.", F::product(u, v))?;
     println!(rt;
@@ -205,20 +160,21 @@ fn print_comparisons<F: Field + Slow>(rt: &HostRuntime) -> io::Result<()> {
     println!(rt; "Compared with a slow computation that shares no code with the field:")?;
     println!(rt;
         "  the sums of two numbers from 0 to 299: {}",
-        compare_sums::<F>()
+        compare_pairs(LAST, |u, v| F::sum(u, v), |u, v| F::slow_sum(u, v))
     )?;
     println!(rt;
         "  the products of two numbers from 0 to 299: {}",
-        compare_products::<F>()
+        compare_pairs(LAST, |u, v| F::product(u, v), |u, v| F::slow_product(u, v))
     )?;
     println!(rt;
         "  the powers of a number from 0 to 299 with exponents from 0 to 39: {}",
         compare_powers::<F>()
     )?;
     println!(rt; "Compared with what the laws of a field ask:")?;
+    let last = (F::SIZE - 1) as u16;
     println!(rt;
         "  u + v - v with u, at all symbols u and v: {}",
-        compare_differences::<F>()
+        compare_pairs(last, |u, v| F::difference(F::sum(u, v), v), |u, _| u)
     )?;
     println!(rt;
         "  u times the inverse of u with 1, at all symbols u but 0: {}",
@@ -237,21 +193,26 @@ fn print_introduction(rt: &HostRuntime) -> io::Result<()> {
     println!(rt)
 }
 
+// All of it in one field: its worked values are u times v and the inverse of w.
+fn print_field<F: Field + Slow>(
+    rt: &HostRuntime,
+    name: &str,
+    u: u16,
+    v: u16,
+    w: u16,
+) -> io::Result<()> {
+    println!(rt;
+        "{name}: {} symbols, and the generator {}.",
+        F::SIZE,
+        F::GENERATOR
+    )?;
+    print_worked_values::<F>(rt, u, v, w)?;
+    print_comparisons::<F>(rt)
+}
+
 fn main(rt: HostRuntime) -> io::Result<()> {
     print_introduction(&rt)?;
-    println!(rt;
-        "The field of bytes: {} symbols, and the generator {}.",
-        Bytes::SIZE,
-        Bytes::GENERATOR
-    )?;
-    print_worked_values::<Bytes>(&rt, 2, 128, 2)?;
-    print_comparisons::<Bytes>(&rt)?;
+    print_field::<Bytes>(&rt, "The field of bytes", 2, 128, 2)?;
     println!(rt)?;
-    println!(rt;
-        "The numbers modulo 257: {} symbols, and the generator {}.",
-        Prime::SIZE,
-        Prime::GENERATOR
-    )?;
-    print_worked_values::<Prime>(&rt, 256, 256, 3)?;
-    print_comparisons::<Prime>(&rt)
+    print_field::<Prime>(&rt, "The numbers modulo 257", 256, 256, 3)
 }
