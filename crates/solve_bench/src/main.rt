@@ -2,30 +2,23 @@
 // both find; the times, which differ from run to run, go to standard error.
 #![tactic(auto)]
 
-mod dense;
-
 use code::{Code, Refusal};
-use dense::{get, place, solve_rows, solved_symbol};
 use encode::encode;
 use field::{Bytes, Field, Prime};
 use solve::only_file;
 use std::time::Instant;
 use std::{fmt, io};
-use store::{Grid, Store};
-
-// The most symbols of a file, and the most cells of a stripe.
-const SYMBOLS: usize = 504;
-
-const CELLS: usize = 704;
+use store::Grid;
+use trial::{Solved, fill_file, solve_cells};
 
 // What stands for a lost cell.
-const LOST: u32 = 4294967295;
+const LOST: u32 = u32::MAX;
 
 // How often each of the two runs. The fastest turn counts.
 const TURNS: u32 = 5;
 
 // Which cells are lost: the first data cells of the stripe, or the first nodes.
-#[derive(Clone, Copy)]
+#[derive(Clone, Copy, Debug)]
 enum Losses {
     Symbols(usize),
     Nodes(usize),
@@ -40,149 +33,56 @@ impl fmt::Display for Losses {
     }
 }
 
-// What is answered, and how many nanoseconds the fastest turn takes.
-#[derive(Drop)]
-struct Timed {
-    answer: Result<usize, Refusal>,
-    nanos: u128,
-}
-
-// The answer of the solver for the whole file.
-#[derive(Drop)]
-struct Told {
-    answer: Result<usize, Refusal>,
-}
-
-impl fmt::Display for Told {
-    fn fmt<W: fmt::Write>(&self, f: &mut fmt::Formatter<W>) -> fmt::Result {
-        match self.answer {
-            Ok(length) => write!(f, "a file of {length} symbols"),
-            Err(e) => write!(f, "refusal {}", e.number()),
-        }
-    }
-}
-
-// The number at a place, and 0 where there is none.
-fn number_at(xs: &[u32], at: usize) -> u32 {
-    if at < xs.len() { xs[at] } else { 0 }
-}
-
-// Loses a cell.
-fn lose_cell(code: &Code, node: usize, column: usize, held: &mut [u32]) {
-    let at = place(node, code.columns(), column);
-    if at < held.len() {
-        held[at] = LOST;
-    }
-}
-
-// Loses the first data cells.
-fn lose_symbols(code: &Code, count: usize, held: &mut [u32]) {
-    let mut left = count;
-    for node in 0..code.nodes() {
-        for column in 0..code.data_columns() {
-            if left > 0 {
-                lose_cell(code, node, column, held);
-                left -= 1;
+impl Losses {
+    // Loses these cells of a stripe.
+    fn lose(self, code: &Code, held: &mut [u32]) {
+        let rows = held.chunks_exact_mut(code.columns());
+        match self {
+            Losses::Symbols(count) => {
+                let cells = rows.flat_map(|row| row.iter_mut().take(code.data_columns()));
+                for number in cells.take(count) {
+                    *number = LOST;
+                }
+            }
+            Losses::Nodes(count) => {
+                for row in rows.take(count) {
+                    row.fill(LOST);
+                }
             }
         }
     }
 }
 
-// Loses the first nodes.
-fn lose_nodes(code: &Code, count: usize, held: &mut [u32]) {
-    for node in 0..count {
-        for column in 0..code.columns() {
-            lose_cell(code, node, column, held);
-        }
-    }
-}
-
-// A file of symbols that look random.
-fn fill_file<F: Field>(file: &mut [u16]) {
-    let mut state: u32 = 1;
-    for x in file.iter_mut() {
-        state = (state % 65537 * 75 + 74) % 65537;
-        let size = F::SIZE.max(1);
-        *x = (state % size % 65536) as u16;
-    }
-}
-
-// Writes the stripe of a file where a grid holds its cells, without those that are lost.
-fn fill_held<F: Field>(code: &Code, file: &[u16], losses: Losses, held: &mut [u32]) {
-    let mut cells = [0u16; CELLS];
-    let _ = encode::<F>(code, file, &mut cells);
-    for (x, number) in held.iter_mut().enumerate() {
-        *number = u32::from(get(&cells, x));
-    }
-    match losses {
-        Losses::Symbols(count) => lose_symbols(code, count, held),
-        Losses::Nodes(count) => lose_nodes(code, count, held),
-    }
-}
-
-// The solver's answer and its time.
-fn time_solver<F: Field>(
-    rt: &HostRuntime,
-    code: &Code,
-    held: &mut [u32],
-    work: &mut [u32],
-) -> io::Result<Timed> {
-    let grid = Grid::take_up(code.nodes(), code.columns(), held);
-    let mut answer = Err(Refusal::Work);
-    let mut nanos = u128::MAX;
-    for _turn in 0..TURNS {
+// What a solver answers, and how many nanoseconds its fastest turn takes.
+fn fastest<T: Drop, S: FnMut() -> T>(rt: &HostRuntime, mut solver: S) -> io::Result<(T, u128)>
+    requires { S.IsAlwaysCallable solver }
+{
+    let start = Instant::now(rt)?;
+    let mut answer = solver();
+    let mut nanos = start.elapsed(rt)?.as_nanos();
+    for _turn in 1..TURNS {
         let start = Instant::now(rt)?;
-        answer = only_file::<F, Grid>(code, &grid, work);
+        let next = solver();
         nanos = nanos.min(start.elapsed(rt)?.as_nanos());
+        answer = next;
     }
-    Ok(Timed { answer, nanos })
+    Ok((answer, nanos))
 }
 
-// The rank that the elimination finds, and its time.
-fn time_dense<F: Field>(
-    rt: &HostRuntime,
-    code: &Code,
-    held: &[u32],
-    factors: &mut [u16],
-    rows: &mut [u16],
-) -> io::Result<Timed> {
-    let mut answer = Err(Refusal::Work);
-    let mut nanos = u128::MAX;
-    for _turn in 0..TURNS {
-        let start = Instant::now(rt)?;
-        answer = solve_rows::<F>(code, held, factors, rows);
-        nanos = nanos.min(start.elapsed(rt)?.as_nanos());
-    }
-    Ok(Timed { answer, nanos })
-}
-
-// How many symbols the elimination leaves open, or finds to be others than those in the work memory.
-fn differences(code: &Code, rows: &[u16], rank: usize, work: &[u32]) -> u32 {
-    let mut count = 0u32;
-    for p in 0..code.file_length() {
-        let equal = match solved_symbol(rows, rank, code.file_length(), p) {
-            Some(symbol) => u32::from(symbol) == number_at(work, p),
-            None => false,
-        };
-        if !equal {
-            count = count.saturating_add(1);
-        }
-    }
-    count
-}
-
-// Whether the solver's answer is what the elimination finds.
+// Whether the solver's answer, with the file in its work memory, is what the elimination finds.
 fn agree(
     code: &Code,
     fast: Result<usize, Refusal>,
     work: &[u32],
-    slow: Result<usize, Refusal>,
-    rows: &[u16],
+    slow: Result<&Solved, Refusal>,
 ) -> bool {
+    let mut symbols = 0..code.file_length();
     match (fast, slow) {
-        (Ok(_), Ok(rank)) => differences(code, rows, rank, work) == 0,
-        (Err(e), Ok(rank)) => e.number() == 10 && rank < code.file_length(),
-        (Err(e), Err(f)) => e.number() == f.number(),
+        (Ok(_), Ok(solved)) => {
+            symbols.all(|p| solved.unknown(p).map(u32::from) == work.get(p).copied())
+        }
+        (Err(Refusal::Ambiguous), Ok(solved)) => symbols.any(|p| solved.unknown(p).is_none()),
+        (Err(e), Err(f)) => e == f,
         _ => false,
     }
 }
@@ -204,81 +104,76 @@ fn print_ratio(
     )
 }
 
-// The numbers of work memory that the solver needs.
-fn work_needed(code: &Code) -> usize {
-    let length = code.file_length();
-    length.saturating_mul(length.saturating_add(1))
+// The stripe of a file that is made up, where a grid holds its cells, without those that are lost.
+fn stripe<F: Field>(rt: &HostRuntime, code: &Code, losses: Losses) -> io::Result<Vec<u32>> {
+    let mut file = vec![in rt.alloc(); 0u16; code.file_length()]?;
+    fill_file::<F>(&mut file);
+    let mut cells = vec![in rt.alloc(); 0u16; code.nodes() * code.columns()]?;
+    let _ = encode::<F>(code, &file, &mut cells);
+    let mut held = Vec::with_capacity(rt.alloc(), cells.len())?;
+    for x in &cells {
+        held.push(u32::from(*x))?;
+    }
+    losses.lose(code, &mut held);
+    Ok(held)
 }
 
-// Runs the solver and the elimination on a file that is made up.
+// Runs the solver and the elimination on a stripe without some cells.
 fn run_both<F: Field>(
     rt: &HostRuntime,
     code: &Code,
     field: &str,
     losses: Losses,
 ) -> io::Result<()> {
-    let mut file = [0u16; SYMBOLS];
-    let length = code.file_length().min(SYMBOLS);
-    fill_file::<F>(&mut file);
-    let mut held = vec![in rt.alloc(); 0u32; CELLS]?;
-    fill_held::<F>(code, &file[0..length], losses, held.as_mut_slice());
-    let mut work = vec![in rt.alloc(); 0u32; work_needed(code)]?;
-    let fast = time_solver::<F>(rt, code, held.as_mut_slice(), work.as_mut_slice())?;
-    let mut factors = vec![in rt.alloc(); 0u16; CELLS.saturating_mul(code.file_length())]?;
-    let mut rows = vec![in rt.alloc(); 0u16; CELLS.saturating_mul(
-        code.file_length().saturating_add(1)
-    )]?;
-    let slow = time_dense::<F>(
-        rt,
-        code,
-        held.as_slice(),
-        factors.as_mut_slice(),
-        rows.as_mut_slice(),
-    )?;
-    let agreed = agree(
-        code,
-        fast.answer,
-        work.as_slice(),
-        slow.answer,
-        rows.as_slice(),
-    );
-    println!(rt;
-        "    {field}, {losses}: {}; both agree: {agreed}.",
-        Told {
-            answer: fast.answer
-        }
-    )?;
-    print_ratio(rt, field, losses, fast.nanos, slow.nanos)
+    let mut held = stripe::<F>(rt, code, losses)?;
+    let length = code.file_length();
+    let mut work = vec![in rt.alloc(); 0u32; length * (length + 1)]?;
+    let grid = Grid::take_up(code.nodes(), code.columns(), &mut held);
+    let (fast, fast_nanos) = fastest(rt, || only_file::<F, Grid>(code, &grid, &mut work))?;
+    let (slow, slow_nanos) = fastest(rt, || solve_cells::<F>(rt.alloc(), code, &held))?;
+    let slow = slow?;
+    let agreed = agree(code, fast, &work, slow.as_ref().map_err(|e| *e));
+    match fast {
+        Ok(length) => println!(rt;
+            "    {field}, {losses}: a file of {length} symbols; both agree: {agreed}."
+        )?,
+        Err(e) => println!(rt;
+            "    {field}, {losses}: refusal {}; both agree: {agreed}.",
+            e.number()
+        )?,
+    }
+    print_ratio(rt, field, losses, fast_nanos, slow_nanos)
 }
 
 // Both solvers with each of the losses.
 fn compare<F: Field>(rt: &HostRuntime, field: &str, code: &Code) -> io::Result<()> {
-    run_both::<F>(rt, code, field, Losses::Symbols(0))?;
-    run_both::<F>(rt, code, field, Losses::Symbols(8))?;
-    run_both::<F>(rt, code, field, Losses::Symbols(32))?;
-    run_both::<F>(
-        rt,
-        code,
-        field,
-        Losses::Nodes(code.parity_nodes().saturating_add(code.coded_columns())),
-    )
-}
-
-// Both solvers on one code in both fields.
-fn compare_both(rt: &HostRuntime, n: usize, k: usize, m: usize, a: usize) -> io::Result<()> {
-    let Ok(code) = Code::new(n, k, m, a) else {
-        return println!(rt; "  no code.");
-    };
-    println!(rt; "  n {n}, k {k}, m {m}, a {a}:")?;
-    eprintln!(rt; "  n {n}, k {k}, m {m}, a {a}:")?;
-    compare::<Prime>(rt, "prime", &code)?;
-    compare::<Bytes>(rt, "bytes", &code)
+    for losses in [
+        Losses::Symbols(0),
+        Losses::Symbols(8),
+        Losses::Symbols(32),
+        Losses::Nodes(code.parity_nodes() + code.coded_columns()),
+    ] {
+        run_both::<F>(rt, code, field, losses)?;
+    }
+    Ok(())
 }
 
 fn main(rt: HostRuntime) -> io::Result<()> {
     println!(rt; "The solver and an elimination of all symbols over all present cells:")?;
-    compare_both(&rt, 16, 12, 4, 1)?;
-    compare_both(&rt, 24, 20, 6, 2)?;
-    compare_both(&rt, 64, 48, 8, 3)?;
-    compare_both(&rt, 64, 63, 8, 3)
+    for (n, k, m, a) in [
+        (16, 12, 4, 1),
+        (24, 20, 6, 2),
+        (64, 48, 8, 3),
+        (64, 63, 8, 3),
+    ] {
+        let Ok(code) = Code::new(n, k, m, a) else {
+            println!(rt; "  no code.")?;
+            continue;
+        };
+        println!(rt; "  n {n}, k {k}, m {m}, a {a}:")?;
+        eprintln!(rt; "  n {n}, k {k}, m {m}, a {a}:")?;
+        compare::<Prime>(&rt, "prime", &code)?;
+        compare::<Bytes>(&rt, "bytes", &code)?;
+    }
+    Ok(())
 }
