@@ -1,3 +1,4 @@
 pub mod Tallies
 pub mod Samples
 pub mod Rows
+pub mod Cells

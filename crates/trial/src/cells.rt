@@ -1,6 +1,9 @@
 // What the present cells of a stripe say of its file, found by eliminating all symbols from all present cells.
-use code::{Code, Refusal};
+ghost use Rattle.std.specs.Prelude.{◌≡◌, ◌*◌, IfOk, position};
+ghost use Rattle.trial.specs.Cells.{Refuses, foreign};
+
 use crate::elimination::{Solved, eliminate};
+use code::{Code, Refusal};
 use encode::encode;
 use field::Field;
 use std::alloc::{AllocError, Global};
@@ -22,7 +25,11 @@ fn unit_stripes<F: Field>(alloc: Global, code: &Code) -> Result<Vec<u16>, AllocE
 }
 
 // An equation for each present cell: the factors of the symbols in it, and what it holds.
-fn equations_of<F: Field>(alloc: Global, code: &Code, held: &[u32]) -> Result<Vec<u16>, AllocError> {
+fn equations_of<F: Field>(
+    alloc: Global,
+    code: &Code,
+    held: &[u32],
+) -> Result<Vec<u16>, AllocError> {
     let count = code.nodes() * code.columns();
     let stripes = unit_stripes::<F>(alloc, code)?;
     let mut equations = Vec::with_capacity(alloc, count * (code.file_length() + 1))?;
@@ -43,17 +50,15 @@ pub fn solve_cells<F: Field>(
     alloc: Global,
     code: &Code,
     held: &[u32],
-) -> Result<Result<Solved, Refusal>, AllocError> {
-    let columns = code.columns();
-    let count = code.nodes() * columns;
-    let foreign = held
-        .iter()
-        .take(count)
-        .position(|number| (F::SIZE..65536).contains(number));
-    if let Some(x) = foreign {
+) -> Result<Result<Solved, Refusal>, AllocError>
+    ensures refuses { IfOk result (λ answer. Refuses F.ops.q code.now held.now answer) }
+    ensures unknowns { IfOk result (λ answer. IfOk answer (λ solved. solved.unknowns ≡ code.now.k * code.now.m)) }
+{
+    let count = code.nodes() * code.columns();
+    if let Some(x) = first_foreign::<F>(&held[..count.min(held.len())]) {
         return Ok(Err(Refusal::Foreign {
-            node: x / columns,
-            column: x % columns,
+            node: x / code.columns(),
+            column: x % code.columns(),
         }));
     }
     let equations = equations_of::<F>(alloc, code, held)?;
@@ -62,4 +67,11 @@ pub fn solve_cells<F: Field>(
         return Ok(Err(Refusal::Contradiction));
     }
     Ok(Ok(solved))
+}
+
+// The first of the cells whose number is no symbol.
+fn first_foreign<F: Field>(cells: &[u32]) -> Option<usize>
+    ensures { result ≡ position (foreign F.ops.q) cells.now }
+{
+    cells.iter().position(|x| F::SIZE <= *x && *x < 65536)
 }

@@ -1,5 +1,7 @@
 // Linear equations over a field, and Gauss and Jordan's elimination of their unknowns.
-ghost use Rattle.std.specs.Prelude.{◌≡◌, ℕ, ◌+◌, ◌*◌, ◌<◌, ◌≤◌, length, IsTrue};
+ghost use Rattle.std.specs.Prelude.{◌≡◌, ◌≢◌, ℕ, ◌+◌, ◌*◌, ◌<◌, ◌≤◌, length, IsTrue, slice_index, MatchOption};
+ghost use Rattle.std.specs.Bool.{MatchBool};
+ghost use Rattle.trial.specs.Rows.{Alone, Said};
 
 use field::Field;
 
@@ -9,11 +11,11 @@ pub struct Solved {
     // for each equation the factors of the unknowns, and behind them the right side
     numbers: Vec<u16>,
     unknowns: usize,
-    // How many of the numbers stand in equations that were taken for an unknown: there its factor is 1, and 0 in all
-    // others. In the equations behind these all factors are 0.
-    taken: usize,
+    // How many of the first equations were taken for an unknown each: there its factor is 1, and in all others 0. In
+    // the equations behind these all factors are 0.
+    rank: usize,
     ghost few: { unknowns < 65536 },
-    ghost within: { taken ≤ length numbers.items },
+    ghost within: { rank * (unknowns + 1) ≤ length numbers.items },
 }
 
 /// Eliminates one unknown after another from equations that stand one behind another: of each the factors of the
@@ -22,31 +24,32 @@ pub fn eliminate<F: Field>(mut numbers: Vec<u16>, unknowns: usize) -> Solved
     requires few { unknowns < 65536 }
     ensures unknowns { result.unknowns ≡ unknowns }
     ensures long { length result.numbers.items ≡ length numbers.items }
-    ensures rank { (rank : ℕ) × (rank ≤ unknowns) × (result.taken ≡ rank * (unknowns + 1)) }
+    ensures rank { result.rank ≤ unknowns }
 {
-    let taken = take_unknowns::<F>(&mut numbers, unknowns);
+    let rank = take_unknowns::<F>(&mut numbers, unknowns);
     Solved {
         numbers,
         unknowns,
-        taken,
+        rank,
     }
 }
 
-// The same on the numbers. Returns how many of them stand in equations that were taken for an unknown.
+// The same on the numbers. Returns how many equations were taken for an unknown.
 fn take_unknowns<F: Field>(numbers: &mut [u16], unknowns: usize) -> usize
     requires { unknowns < 65536 }
     ensures long { length numbers.new ≡ length numbers.old }
-    ensures within { result ≤ length numbers.old }
-    ensures rank { (rank : ℕ) × (rank ≤ unknowns) × (result ≡ rank * (unknowns + 1)) }
+    ensures rank { result ≤ unknowns }
+    ensures within { result * (unknowns + 1) ≤ length numbers.old }
 {
-    let mut taken = 0;
+    let width = unknowns + 1;
+    let mut rank = 0;
     for unknown in 0..unknowns {
-        if bring_pivot(&mut numbers[taken..], unknown, unknowns + 1) {
-            clear_unknown::<F>(numbers, taken, unknown, unknowns + 1);
-            taken += unknowns + 1;
+        if bring_pivot(&mut numbers[rank * width..], unknown, width) {
+            clear_unknown::<F>(numbers, rank * width, unknown, width);
+            rank += 1;
         }
     }
-    taken
+    rank
 }
 
 // Exchanges the first row with the first that has a factor of the unknown, and tells whether there is one.
@@ -82,7 +85,10 @@ fn clear_unknown<F: Field>(numbers: &mut [u16], at: usize, unknown: usize, width
     let (row, below) = rest.split_at_mut(width);
     let pivot = &mut row[unknown..];
     scale::<F>(pivot);
-    for other in above.chunks_exact_mut(width).chain(below.chunks_exact_mut(width)) {
+    for other in above
+        .chunks_exact_mut(width)
+        .chain(below.chunks_exact_mut(width))
+    {
         if let Some(row) = other.get_mut(unknown..) {
             clear::<F>(row, pivot);
         }
@@ -110,28 +116,53 @@ fn clear<F: Field>(row: &mut [u16], pivot: &[u16]) {
     }
 }
 
-// Whether symbol p alone has a factor in the row.
-fn stands_alone(factors: &[u16], p: usize) -> bool {
+// Whether all numbers are 0, but for the one at p.
+fn only_at(factors: &[u16], p: usize) -> bool
+    ensures { MatchBool result ((c : ℕ) → c < length factors.now → c ≢ p → slice_index factors.now c ≡ 0)
+        ((c : ℕ) × (c < length factors.now) × (c ≢ p) × (slice_index factors.now c ≢ 0)) }
+{
     factors
         .iter()
         .enumerate()
-        .all(|(c, factor)| (*factor != 0) == (c == p))
+        .all(|(c, factor)| c == p || *factor == 0)
 }
 
 impl Solved {
-    /// What an unknown has to be, if the equations say so.
-    pub fn unknown(&self, p: usize) -> Option<u16> {
-        self.numbers[..self.taken]
-            .chunks_exact(self.unknowns + 1)
-            .filter_map(|row| row.split_last())
-            .find(|(_, factors)| stands_alone(factors, p))
-            .map(|(right, _)| *right)
+    /// What an unknown has to be, if the equations that were taken say so: the right side of one in which it alone has
+    /// a factor.
+    pub fn unknown(&self, p: usize) -> Option<u16>
+        ensures { Said self.now.unknowns self.now.numbers.items self.now.rank p result }
+    {
+        let row = self.row_of(p)?;
+        Some(self.numbers[row * (self.unknowns + 1) + self.unknowns])
+    }
+
+    // The first equation in which the unknown alone has a factor.
+    fn row_of(&self, p: usize) -> Option<usize>
+        ensures { MatchOption result
+            ((row : ℕ) → row < self.now.rank → Alone self.now.unknowns self.now.numbers.items row p → ⊥)
+            (λ row. (row < self.now.rank) × Alone self.now.unknowns self.now.numbers.items row p) }
+    {
+        (0..self.rank).find(|row| self.is_alone(*row, p))
+    }
+
+    // Whether the unknown alone has a factor in the row.
+    fn is_alone(&self, row: usize, p: usize) -> bool
+        requires { row < self.now.rank }
+        ensures { MatchBool result (Alone self.now.unknowns self.now.numbers.items row p)
+            (Alone self.now.unknowns self.now.numbers.items row p → ⊥) }
+    {
+        let at = row * (self.unknowns + 1);
+        p < self.unknowns
+            && self.numbers[at + p] != 0
+            && only_at(&self.numbers[at..at + self.unknowns], p)
     }
 
     // Whether an equation without factors has a right side other than 0.
     pub(crate) fn contradicts(&self) -> bool {
-        self.numbers[self.taken..]
-            .chunks_exact(self.unknowns + 1)
+        let width = self.unknowns + 1;
+        self.numbers[self.rank * width..]
+            .chunks_exact(width)
             .filter_map(|row| row.last())
             .any(|right| *right != 0)
     }

@@ -2,12 +2,44 @@
 // elimination that shares no code with the solver.
 #![tactic(auto)]
 
+mod cells;
 mod elimination;
 mod sample;
-mod cells;
 mod tally;
 
+pub use cells::solve_cells;
 pub use elimination::{Solved, eliminate};
 pub use sample::fill_file;
-pub use cells::solve_cells;
 pub use tally::Tally;
+
+#[cfg(test)]
+mod tests {
+    use super::*;
+    use code::{Code, Refusal};
+    use encode::encode;
+    use field::Prime;
+
+    // Memory suffices for a small code, and the file comes back from the last node alone.
+    #[test]
+    fn solves_for_the_file(rt: HostRuntime) {
+        let code = Code::new(4, 2, 2, 2).unwrap();
+        let file = [3, 1, 4, 256];
+        let mut cells = [0u16; 16];
+        let written = encode::<Prime>(&code, &file, &mut cells);
+        assert!(rt; written.is_ok());
+        let mut held = [65536u32; 16];
+        for (number, x) in held.iter_mut().zip(&cells).skip(12) {
+            *number = u32::from(*x);
+        }
+        let Ok(Ok(solved)) = solve_cells::<Prime>(rt.alloc(), &code, &held) else {
+            assert!(rt; false, "no solution");
+            return;
+        };
+        for (p, symbol) in file.iter().enumerate() {
+            assert_eq!(rt; solved.unknown(p), Some(*symbol), "symbol {p}");
+        }
+        held[13] = 257;
+        let refused = solve_cells::<Prime>(rt.alloc(), &code, &held);
+        assert!(rt; matches!(refused, Ok(Err(Refusal::Foreign { node: 3, column: 1 }))));
+    }
+}

@@ -1,5 +1,5 @@
 -- The states are followed one by one.
-use Rattle.std.proofs.Common.{rules, ◌≡◌, ℕ, ◌+◌, ◌%◌, ◌<◌, length, slice_index, arith, refl}
+use Rattle.std.proofs.Common.{rules, arith, refl}
 use Rattle.std.proofs.lemmas.Grind.{common_steps}
 use Rattle.trial.specs.Samples.{sample_state}
 use Rattle.trial.proofs.sample.fill_file.Goals as goal
