@@ -1,96 +1,54 @@
 // Tries the encoder on worked values, and recomputes both rules on what it writes by plain loops of its own.
 #![tactic(auto)]
 
-ghost use Rattle.std.specs.Prelude.{◌≤◌};
-
-use code::Code;
+use code::{Code, MOST_CELLS};
 use encode::encode;
 use field::{Bytes, Field, Prime};
-use std::{fmt, io};
+use std::io;
+use trial::{Tally, fill_file};
 
-// The most numbers that a stripe has: 64 nodes of 11 columns.
-const ROOM: usize = 704;
+// What stands in the memory before a call.
+const MARK: u16 = 7777;
 
-// The most symbols that a file has: 63 nodes of 8 columns.
-const LONGEST: usize = 504;
-
-// How many values were compared, and how many of them differed.
-#[derive(Drop)]
-struct Tally {
-    compared: u32,
-    differing: u32,
-}
-
-impl Tally {
-    fn new() -> Self {
-        Tally {
-            compared: 0,
-            differing: 0,
-        }
-    }
-
-    // Counts one comparison.
-    fn compare(&mut self, value: u16, expected: u16) {
-        self.compared = self.compared.saturating_add(1);
-        if value != expected {
-            self.differing = self.differing.saturating_add(1);
-        }
-    }
-}
-
-impl fmt::Display for Tally {
-    fn fmt<W: fmt::Write>(&self, f: &mut fmt::Formatter<W>) -> fmt::Result {
-        let compared = self.compared;
-        let differing = self.differing;
-        write!(f, "{compared} compared, {differing} differ")
-    }
-}
-
-// The number at a place, and 65,535, which no field here has as a symbol, where there is none.
-fn number_at(cells: &[u16], at: usize) -> u16 {
-    if at < cells.len() { cells[at] } else { 65535 }
-}
+// What stands for a cell that is not there: no field here has it as a symbol.
+const NONE: u16 = 65535;
 
 // u^e by e products.
 fn slow_power<F: Field>(u: u16, e: usize) -> u16 {
-    let mut power = 1;
-    for _turn in 0..e {
-        power = F::product(power, u);
-    }
-    power
+    (0..e).fold(1, |power, _| F::product(power, u))
+}
+
+// The i-th power of α to the power e, with each product computed from nothing.
+fn weight<F: Field>(i: usize, e: usize) -> u16 {
+    slow_power::<F>(slow_power::<F>(F::GENERATOR, i), e)
 }
 
 // The number that stands at cell (j, c).
 fn cell(code: &Code, cells: &[u16], j: usize, c: usize) -> u16 {
-    let width = code.columns();
-    match j.checked_mul(width) {
-        Some(row) => number_at(cells, row.saturating_add(c)),
-        None => 65535,
-    }
+    cells
+        .chunks_exact(code.columns())
+        .nth(j)
+        .and_then(|row| row.get(c))
+        .copied()
+        .unwrap_or(NONE)
 }
 
-// What the column rule wants to be 0 for column t and i, with each power computed from nothing.
+// What the column rule wants to be 0 for column t and i.
 fn column_sum<F: Field>(code: &Code, cells: &[u16], t: usize, i: usize) -> u16 {
-    let mut sum = 0;
-    for j in 0..code.nodes() {
-        let weight = slow_power::<F>(slow_power::<F>(F::GENERATOR, i), j);
-        sum = F::sum(sum, F::product(weight, cell(code, cells, j, t)));
-    }
-    sum
+    (0..code.nodes()).fold(0, |sum, j| {
+        F::sum(sum, F::product(weight::<F>(i, j), cell(code, cells, j, t)))
+    })
 }
 
 // The sum over the data columns t of α^(i·t) · x(⟨j − t − 1⟩, t).
 fn group_sum<F: Field>(code: &Code, cells: &[u16], j: usize, i: usize) -> u16 {
+    let behind = (0..j).rev().chain((j..code.nodes()).rev());
     let mut sum = 0;
-    let mut node = j;
-    for t in 0..code.data_columns() {
-        node = if node == 0 {
-            code.nodes().saturating_sub(1)
-        } else {
-            node - 1
-        };
-        let weight = slow_power::<F>(slow_power::<F>(F::GENERATOR, i), t);
-        sum = F::sum(sum, F::product(weight, cell(code, cells, node, t)));
+    for (t, node) in (0..code.data_columns()).zip(behind) {
+        sum = F::sum(
+            sum,
+            F::product(weight::<F>(i, t), cell(code, cells, node, t)),
+        );
     }
     sum
 }
@@ -106,19 +64,15 @@ fn compare_columns<F: Field>(code: &Code, cells: &[u16]) -> Tally {
     tally
 }
 
-// Every coded cell against the sum of its group.
+// Every coded cell against the sum of its group: the i-th of node ⟨j + i⟩ against that of node j.
 fn compare_groups<F: Field>(code: &Code, cells: &[u16]) -> Tally {
     let mut tally = Tally::new();
     for j in 0..code.nodes() {
-        let mut node = j;
-        for i in 0..code.coded_columns() {
-            let coded = cell(code, cells, node, code.data_columns().saturating_add(i));
+        let ahead = (j..code.nodes()).chain(0..j);
+        let columns = code.data_columns()..code.columns();
+        for (i, (node, column)) in ahead.zip(columns).enumerate() {
+            let coded = cell(code, cells, node, column);
             tally.compare(coded, group_sum::<F>(code, cells, j, i));
-            node = if node.saturating_add(1) == code.nodes() {
-                0
-            } else {
-                node.saturating_add(1)
-            };
         }
     }
     tally
@@ -127,95 +81,72 @@ fn compare_groups<F: Field>(code: &Code, cells: &[u16]) -> Tally {
 // The symbols of the file against the first k nodes.
 fn compare_data(code: &Code, file: &[u16], cells: &[u16]) -> Tally {
     let mut tally = Tally::new();
-    let mut p = 0usize;
-    for j in 0..code.data_nodes() {
-        for t in 0..code.data_columns() {
-            tally.compare(cell(code, cells, j, t), number_at(file, p));
-            p = p.saturating_add(1);
+    let rows = cells.chunks_exact(code.columns());
+    for (symbols, row) in file.chunks_exact(code.data_columns()).zip(rows) {
+        for (symbol, cell) in symbols.iter().zip(row) {
+            tally.compare(*cell, *symbol);
         }
     }
     tally
 }
 
-// The numbers behind the cells against the 7,777 that stood there.
+// The numbers behind so many cells against the 7,777 that stood there.
 fn compare_rest(count: usize, cells: &[u16]) -> Tally {
     let mut tally = Tally::new();
-    for (p, x) in cells.iter().enumerate() {
-        if p >= count {
-            tally.compare(*x, 7777);
-        }
+    for x in cells.iter().skip(count) {
+        tally.compare(*x, MARK);
     }
     tally
-}
-
-// A file of symbols that look random: each is the one before times 75 and 74 more, modulo 65,537, and then modulo the
-// size of the field.
-fn fill_file<F: Field>(file: &mut [u16]) {
-    let mut state: u32 = 1;
-    for x in file.iter_mut() {
-        state = (state % 65537 * 75 + 74) % 65537;
-        let size = F::SIZE.max(1);
-        *x = (state % size % 65536) as u16;
-    }
 }
 
 // Encodes a file that is made up, and recomputes both rules on what stands in the memory.
-fn run_code<F: Field>(
-    rt: &HostRuntime,
-    code: &Code,
-    file: &mut [u16],
-    cells: &mut [u16],
-) -> io::Result<()> {
-    fill_file::<F>(file);
-    let length = file.len();
-    match encode::<F>(code, file, cells) {
-        Ok(count) => {
-            println!(rt; "    the file of {length} symbols takes {count} cells.")?;
-            println!(rt;
-                "    the file in the first k nodes: {}",
-                compare_data(code, file, cells)
-            )?;
-            println!(rt;
-                "    sums of the column rule: {}",
-                compare_columns::<F>(code, cells)
-            )?;
-            println!(rt;
-                "    coded cells and their groups: {}",
-                compare_groups::<F>(code, cells)
-            )?;
-            println!(rt;
-                "    numbers behind the cells: {}",
-                compare_rest(count, cells)
-            )
-        }
+fn try_code<F: Field>(rt: &HostRuntime, code: &Code) -> io::Result<()> {
+    let mut file = vec![in rt.alloc(); 0u16; code.file_length()]?;
+    fill_file::<F>(&mut file);
+    let mut cells = vec![in rt.alloc(); MARK; MOST_CELLS]?;
+    match encode::<F>(code, &file, &mut cells) {
+        Ok(count) => print_rules::<F>(rt, code, &file, &cells, count),
         Err(e) => println!(rt; "    refusal {}.", e.number()),
     }
 }
 
-// The same for the code of these four numbers.
-fn try_code<F: Field>(rt: &HostRuntime, n: usize, k: usize, m: usize, a: usize) -> io::Result<()> {
-    let code = match Code::new(n, k, m, a) {
-        Ok(code) => code,
-        Err(e) => return println!(rt;
-            "  n {n}, k {k}, m {m}, a {a}: no code, refusal {}.",
-            e.number()
-        ),
-    };
-    println!(rt; "  n {n}, k {k}, m {m}, a {a}:")?;
-    let mut symbols = [0u16; LONGEST];
-    let mut cells = [7777u16; ROOM];
-    let length = code.file_length().min(LONGEST);
-    run_code::<F>(rt, &code, &mut symbols[0..length], &mut cells)
+// What the encoder has written for a file, against the two rules.
+fn print_rules<F: Field>(
+    rt: &HostRuntime,
+    code: &Code,
+    file: &[u16],
+    cells: &[u16],
+    count: usize,
+) -> io::Result<()> {
+    let length = file.len();
+    println!(rt; "    the file of {length} symbols takes {count} cells.")?;
+    println!(rt;
+        "    the file in the first k nodes: {}",
+        compare_data(code, file, cells)
+    )?;
+    println!(rt;
+        "    sums of the column rule: {}",
+        compare_columns::<F>(code, cells)
+    )?;
+    println!(rt;
+        "    coded cells and their groups: {}",
+        compare_groups::<F>(code, cells)
+    )?;
+    println!(rt;
+        "    numbers behind the cells: {}",
+        compare_rest(count, cells)
+    )
 }
 
 // The small code of the worked values: n 5, k 4, m 2, a 1.
+fn small_code() -> Code {
+    Code::new(5, 4, 2, 1).unwrap()
+}
+
+// The stripe of the file 1 to 8 in the small code.
 fn print_worked<F: Field>(rt: &HostRuntime) -> io::Result<()> {
-    let code = match Code::new(5, 4, 2, 1) {
-        Ok(code) => code,
-        Err(e) => return println!(rt; "  No code, refusal {}.", e.number()),
-    };
-    let mut cells = [7777u16; 15];
-    match encode::<F>(&code, &[1, 2, 3, 4, 5, 6, 7, 8], &mut cells) {
+    let mut cells = [MARK; 15];
+    match encode::<F>(&small_code(), &[1, 2, 3, 4, 5, 6, 7, 8], &mut cells) {
         Ok(count) => {
             println!(rt; "  The symbols 1 to 8 take {count} cells.")?;
             println!(rt;
@@ -231,82 +162,74 @@ fn print_worked<F: Field>(rt: &HostRuntime) -> io::Result<()> {
     }
 }
 
-// What the encoder answers to a file, and whether a memory of 7,777s stays as it is where it declines.
-fn answer_in<F: Field>(
+// What the encoder answers to a file in the small code, and whether a memory of 7,777s with so much room stays as it
+// is where it declines.
+fn print_answer<F: Field>(
     rt: &HostRuntime,
-    code: &Code,
     what: &str,
     file: &[u16],
-    cells: &mut [u16],
+    room: usize,
 ) -> io::Result<()> {
-    match encode::<F>(code, file, cells) {
+    let mut cells = vec![in rt.alloc(); MARK; room]?;
+    match encode::<F>(&small_code(), file, &mut cells) {
         Ok(count) => println!(rt; "  {what}: accepted, {count} cells."),
         Err(e) => println!(rt;
             "  {what}: refusal {}; the memory as it was: {}",
             e.number(),
-            compare_rest(0, cells)
+            compare_rest(0, &cells)
         ),
     }
 }
 
-// The same for the small code, with so much room.
-fn print_answer<F: Field>(rt: &HostRuntime, what: &str, file: &[u16], room: usize) -> io::Result<()>
-    requires { room ≤ 15 }
-{
-    let code = match Code::new(5, 4, 2, 1) {
-        Ok(code) => code,
-        Err(e) => return println!(rt; "  No code, refusal {}.", e.number()),
-    };
-    let mut cells = [7777u16; 15];
-    answer_in::<F>(rt, &code, what, file, &mut cells[0..room])
-}
-
 // What is refused, and in which order.
 fn print_answers<F: Field>(rt: &HostRuntime) -> io::Result<()> {
-    print_answer::<F>(rt, "7 symbols", &[1, 2, 3, 4, 5, 6, 7], 15)?;
-    print_answer::<F>(rt, "9 symbols", &[1, 2, 3, 4, 5, 6, 7, 8, 9], 15)?;
-    print_answer::<F>(
-        rt,
-        "8 symbols, one of them 256",
-        &[1, 2, 3, 4, 5, 6, 7, 256],
-        15,
-    )?;
-    print_answer::<F>(
-        rt,
-        "8 symbols, one of them 257",
-        &[1, 2, 3, 4, 5, 6, 7, 257],
-        15,
-    )?;
-    print_answer::<F>(rt, "room for 14 cells only", &[1, 2, 3, 4, 5, 6, 7, 8], 14)?;
-    print_answer::<F>(
-        rt,
-        "9 symbols, one of them 257",
-        &[1, 2, 3, 4, 5, 6, 7, 8, 257],
-        15,
-    )?;
-    print_answer::<F>(
-        rt,
-        "9 symbols, one of them 257, and room for 14 cells only",
-        &[1, 2, 3, 4, 5, 6, 7, 8, 257],
-        14,
-    )
-}
-
-// Whether four numbers make a code.
-fn print_code(rt: &HostRuntime, n: usize, k: usize, m: usize, a: usize) -> io::Result<()> {
-    match Code::new(n, k, m, a) {
-        Ok(_) => println!(rt; "  n {n}, k {k}, m {m}, a {a}: a code."),
-        Err(e) => println!(rt; "  n {n}, k {k}, m {m}, a {a}: refusal {}.", e.number()),
+    let tried: [(&str, &[u16], usize); 7] = [
+        ("7 symbols", &[1, 2, 3, 4, 5, 6, 7], 15),
+        ("9 symbols", &[1, 2, 3, 4, 5, 6, 7, 8, 9], 15),
+        (
+            "8 symbols, one of them 256",
+            &[1, 2, 3, 4, 5, 6, 7, 256],
+            15,
+        ),
+        (
+            "8 symbols, one of them 257",
+            &[1, 2, 3, 4, 5, 6, 7, 257],
+            15,
+        ),
+        ("room for 14 cells only", &[1, 2, 3, 4, 5, 6, 7, 8], 14),
+        (
+            "9 symbols, one of them 257",
+            &[1, 2, 3, 4, 5, 6, 7, 8, 257],
+            15,
+        ),
+        (
+            "9 symbols, one of them 257, and room for 14 cells only",
+            &[1, 2, 3, 4, 5, 6, 7, 8, 257],
+            14,
+        ),
+    ];
+    for (what, file, room) in tried {
+        print_answer::<F>(rt, what, file, room)?;
     }
+    Ok(())
 }
 
+// Which numbers make a code.
 fn print_codes(rt: &HostRuntime) -> io::Result<()> {
     println!(rt; "Which numbers make a code:")?;
-    print_code(rt, 64, 63, 8, 3)?;
-    print_code(rt, 65, 63, 8, 3)?;
-    print_code(rt, 3, 1, 2, 1)?;
-    print_code(rt, 3, 2, 2, 1)?;
-    print_code(rt, 3, 2, 2, 2)
+    for (n, k, m, a) in [
+        (64, 63, 8, 3),
+        (65, 63, 8, 3),
+        (3, 1, 2, 1),
+        (3, 2, 2, 1),
+        (3, 2, 2, 2),
+    ] {
+        match Code::new(n, k, m, a) {
+            Ok(_) => println!(rt; "  n {n}, k {k}, m {m}, a {a}: a code.")?,
+            Err(e) => println!(rt; "  n {n}, k {k}, m {m}, a {a}: refusal {}.", e.number())?,
+        }
+    }
+    Ok(())
 }
 
 // All of it in one field.
@@ -314,11 +237,25 @@ fn print_field<F: Field>(rt: &HostRuntime) -> io::Result<()> {
     print_worked::<F>(rt)?;
     print_answers::<F>(rt)?;
     println!(rt; "  Compared with loops that share no code with the encoder:")?;
-    try_code::<F>(rt, 64, 63, 8, 3)?;
-    try_code::<F>(rt, 64, 20, 8, 3)?;
-    try_code::<F>(rt, 12, 1, 3, 2)?;
-    try_code::<F>(rt, 11, 7, 8, 3)?;
-    try_code::<F>(rt, 2, 1, 1, 1)
+    for (n, k, m, a) in [
+        (64, 63, 8, 3),
+        (64, 20, 8, 3),
+        (12, 1, 3, 2),
+        (11, 7, 8, 3),
+        (2, 1, 1, 1),
+    ] {
+        match Code::new(n, k, m, a) {
+            Ok(code) => {
+                println!(rt; "  n {n}, k {k}, m {m}, a {a}:")?;
+                try_code::<F>(rt, &code)?;
+            }
+            Err(e) => println!(rt;
+                "  n {n}, k {k}, m {m}, a {a}: no code, refusal {}.",
+                e.number()
+            )?,
+        }
+    }
+    Ok(())
 }
 
 // What the output is about, for a reader who has seen nothing else.
