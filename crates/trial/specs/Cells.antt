@@ -13,7 +13,8 @@ foreign q x = if nat_le q x then nat_lt x 65536 else false
 abbrev pub first_foreign : ℕ → Code → List ℕ → Option ℕ
 first_foreign q code held = position (foreign q) (take (code.n * width code) held)
 
--- Refused with the first such cell if there is one, and for no other reason than a contradiction if there is none.
+-- Refused with the first such cell if there is one, and for no other reason than a contradiction if there
+-- is none.
 abbrev pub Refuses : {A : Type 0} → ℕ → Code → List ℕ → Result A Refusal → Type 0
 Refuses q code held answer = MatchOption (first_foreign q code held)
     (IfErr answer (λ e. e ≡ Contradiction))

@@ -1,6 +1,7 @@
 // What the present cells of a stripe say of its file, found by eliminating all symbols from all present cells.
 ghost use Rattle.std.specs.Prelude.{◌≡◌, ◌*◌, IfOk, position};
 ghost use Rattle.trial.specs.Cells.{Refuses, foreign};
+ghost use Rattle.trial.specs.Rows.{Consistent};
 
 use crate::elimination::{Solved, eliminate};
 use code::{Code, Refusal};
@@ -44,15 +45,19 @@ fn equations_of<F: Field>(
     Ok(equations)
 }
 
-/// Solves for what the cells hold, cell (j, c) at j·(m + a) + c; a number above 65,535 stands for a lost cell. Refused
-/// with 7, and the first such cell, where a present cell holds no symbol of the field, and with 9 where no file fits.
+/// Solves for what the cells hold, cell (j, c) at j·(m + a) + c; a number above 65,535 stands for a lost
+/// cell. Refused with 7, and the first such cell, where a present cell holds no symbol of the field, and
+/// with 9 where no file fits.
 pub fn solve_cells<F: Field>(
     alloc: Global,
     code: &Code,
     held: &[u32],
 ) -> Result<Result<Solved, Refusal>, AllocError>
     ensures refuses { IfOk result (λ answer. Refuses F.ops.q code.now held.now answer) }
-    ensures unknowns { IfOk result (λ answer. IfOk answer (λ solved. solved.unknowns ≡ code.now.k * code.now.m)) }
+    ensures unknowns { IfOk result (λ answer. IfOk answer (λ solved.
+        solved.unknowns ≡ code.now.k * code.now.m)) }
+    ensures consistent { IfOk result (λ answer. IfOk answer (λ solved.
+        Consistent solved.unknowns solved.numbers.items solved.rank solved.count)) }
 {
     let count = code.nodes() * code.columns();
     if let Some(x) = first_foreign::<F>(&held[..count.min(held.len())]) {
@@ -63,7 +68,7 @@ pub fn solve_cells<F: Field>(
     }
     let equations = equations_of::<F>(alloc, code, held)?;
     let solved = eliminate::<F>(equations, code.file_length());
-    if solved.contradicts() {
+    if solved.contradiction().is_some() {
         return Ok(Err(Refusal::Contradiction));
     }
     Ok(Ok(solved))

@@ -1,7 +1,8 @@
 // Linear equations over a field, and Gauss and Jordan's elimination of their unknowns.
-ghost use Rattle.std.specs.Prelude.{◌≡◌, ◌≢◌, ℕ, ◌+◌, ◌*◌, ◌<◌, ◌≤◌, length, IsTrue, slice_index, MatchOption};
+ghost use Rattle.std.specs.Prelude.{◌≡◌, ◌≢◌, ℕ, ◌+◌, ◌*◌, ◌/◌, ◌<◌, ◌≤◌};
+ghost use Rattle.std.specs.Prelude.{length, slice_index, IsTrue, MatchOption};
 ghost use Rattle.std.specs.Bool.{MatchBool};
-ghost use Rattle.trial.specs.Rows.{Alone, Said};
+ghost use Rattle.trial.specs.Rows.{Alone, Consistent, Said, entry};
 
 use field::Field;
 
@@ -11,26 +12,33 @@ pub struct Solved {
     // for each equation the factors of the unknowns, and behind them the right side
     numbers: Vec<u16>,
     unknowns: usize,
-    // How many of the first equations were taken for an unknown each: there its factor is 1, and in all others 0. In
-    // the equations behind these all factors are 0.
+    // How many of the first equations were taken for an unknown each: there its factor is 1, and in all
+    // others 0. In the equations behind these all factors are 0.
     rank: usize,
+    // how many equations there are
+    count: usize,
     ghost few: { unknowns < 65536 },
+    ghost whole: { count * (unknowns + 1) ≤ length numbers.items },
     ghost within: { rank * (unknowns + 1) ≤ length numbers.items },
 }
 
-/// Eliminates one unknown after another from equations that stand one behind another: of each the factors of the
-/// unknowns, and behind them the right side.
+/// Eliminates one unknown after another from equations that stand one behind another: of each the factors
+/// of the unknowns, and behind them the right side.
+#[tactic(auto, using(crate::proofs::Places::rows_fit))]
 pub fn eliminate<F: Field>(mut numbers: Vec<u16>, unknowns: usize) -> Solved
     requires few { unknowns < 65536 }
     ensures unknowns { result.unknowns ≡ unknowns }
     ensures long { length result.numbers.items ≡ length numbers.items }
+    ensures count { result.count ≡ length numbers.items / (unknowns + 1) }
     ensures rank { result.rank ≤ unknowns }
 {
+    let count = numbers.len() / (unknowns + 1);
     let rank = take_unknowns::<F>(&mut numbers, unknowns);
     Solved {
         numbers,
         unknowns,
         rank,
+        count,
     }
 }
 
@@ -128,8 +136,8 @@ fn only_at(factors: &[u16], p: usize) -> bool
 }
 
 impl Solved {
-    /// What an unknown has to be, if the equations that were taken say so: the right side of one in which it alone has
-    /// a factor.
+    /// What an unknown has to be, if the equations that were taken say so: the right side of one in which
+    /// it alone has a factor.
     pub fn unknown(&self, p: usize) -> Option<u16>
         ensures { Said self.now.unknowns self.now.numbers.items self.now.rank p result }
     {
@@ -158,12 +166,20 @@ impl Solved {
             && only_at(&self.numbers[at..at + self.unknowns], p)
     }
 
-    // Whether an equation without factors has a right side other than 0.
-    pub(crate) fn contradicts(&self) -> bool {
-        let width = self.unknowns + 1;
-        self.numbers[self.rank * width..]
-            .chunks_exact(width)
-            .filter_map(|row| row.last())
-            .any(|right| *right != 0)
+    // The first equation behind those taken, so one without factors, whose right side is not 0.
+    pub(crate) fn contradiction(&self) -> Option<usize>
+        ensures { MatchOption result
+            (Consistent self.now.unknowns self.now.numbers.items self.now.rank self.now.count)
+            (λ row. entry self.now.unknowns self.now.numbers.items row self.now.unknowns ≢ 0) }
+    {
+        (self.rank..self.count).find(|row| self.right_side(*row) != 0)
+    }
+
+    // The right side of an equation.
+    fn right_side(&self, row: usize) -> u16
+        requires { row < self.now.count }
+        ensures { result ≡ entry self.now.unknowns self.now.numbers.items row self.now.unknowns }
+    {
+        self.numbers[row * (self.unknowns + 1) + self.unknowns]
     }
 }
