@@ -1,5 +1,6 @@
-// Measures the encoder against a straightforward one that fills in each column by plain Gaussian elimination.
-// Standard output says only whether both write the same; the times, which differ from run to run, go to standard error.
+// Measures the encoder against a straightforward one that fills in each column by plain Gaussian
+// elimination. Standard output says only whether both write the same; the times, which differ from run to
+// run, go to standard error.
 #![tactic(auto)]
 
 use code::{Code, MOST_CELLS};
@@ -29,8 +30,8 @@ fn right_side<F: Field>(code: &Code, cells: &[u16], t: usize, i: usize) -> u16 {
     F::difference(0, sum)
 }
 
-// The equations of data column t: the i-th is the sum over the parity nodes v of α^(i·v) · x(v, t), and what the data
-// nodes leave of 0.
+// The equations of data column t: the i-th is the sum over the parity nodes v of α^(i·v) · x(v, t), and
+// what the data nodes leave of 0.
 fn equations<F: Field>(
     alloc: Global,
     code: &Code,
@@ -59,7 +60,8 @@ fn group_sum<F: Field>(code: &Code, cells: &[u16], j: usize, i: usize) -> u16 {
     sum
 }
 
-// The coded cells, each from the sum of its group.
+// The coded cells, each from the sum of its group. By places and not by rows, since the cells that are read
+// and the one that is written lie in different rows of the same memory.
 fn fill_groups<F: Field>(code: &Code, cells: &mut [u16]) {
     for j in 0..code.nodes() {
         for i in 0..code.coded_columns() {

@@ -10,7 +10,8 @@ use trial::{Tally, fill_file};
 // What stands in the memory before a call.
 const MARK: u16 = 7777;
 
-// What stands for a cell that is not there: no field here has it as a symbol.
+// What stands for a cell that is not there: no field here has it as a symbol. A number and no Option, since
+// what is expected is a number too, and a cell that is not there has to count as a difference.
 const NONE: u16 = 65535;
 
 // u^e by e products.
@@ -162,8 +163,8 @@ fn print_worked<F: Field>(rt: &HostRuntime) -> io::Result<()> {
     }
 }
 
-// What the encoder answers to a file in the small code, and whether a memory of 7,777s with so much room stays as it
-// is where it declines.
+// What the encoder answers to a file in the small code, and whether a memory of 7,777s with so much room
+// stays as it is where it declines.
 fn print_answer<F: Field>(
     rt: &HostRuntime,
     what: &str,

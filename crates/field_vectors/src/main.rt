@@ -20,7 +20,8 @@ trait Slow {
     fn slow_product(u: u16, v: u16) -> u16;
 }
 
-// The bits that exactly one of two bytes has.
+// The bits that exactly one of two bytes has. Here and below a loop counts bits or turns, since these are
+// what is computed with: there is no slice to go over.
 fn bits_of_one(u: u16, v: u16) -> u16 {
     let mut sum = 0;
     for bit in 0..8u32 {

@@ -1,5 +1,5 @@
-// Measures the solver against an elimination of all symbols over all present cells. Standard output says only what
-// both find; the times, which differ from run to run, go to standard error.
+// Measures the solver against an elimination of all symbols over all present cells. Standard output says
+// only what both find; the times, which differ from run to run, go to standard error.
 #![tactic(auto)]
 
 use code::{Code, Refusal};
