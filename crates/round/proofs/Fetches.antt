@@ -151,11 +151,6 @@ pub record Collects {X : Type 0} (F : Operations) (code : Code) (f : ℕ) (cells
   pub room : length symbols ≡ 11
   pub taken : (c : ℕ) → c < w.column → get_or symbols c 0 ≡ made_in F code f cells c
 
--- a round that was given nothing stands at its first column
-pub collects_none : {X : Type 0} (F : Operations) (code : Code) (f : ℕ) (cells symbols : List ℕ) (w : Wanting X)
-    → Wants F code f [] w → length symbols ≡ 11 → Collects F code f cells w symbols
-collects_none F code f cells symbols w was room = grind (arith, common_steps)
-
 -- A column is finished and its symbol is taken.
 module _ {X : Type 0} (F : Operations) (code : Code) (f : ℕ) (cells symbols : List ℕ) (w : Wanting X)
     (so_far : Collects F code f cells w symbols) (h : Holding X) (filled : Fills F w.code w.node cells w.column (Ok h))

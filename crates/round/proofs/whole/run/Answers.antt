@@ -1,10 +1,5 @@
-use Rattle.std.proofs.Common.{refl}
-use Rattle.round.proofs.Fetches.{collects_none, collects_on, collects_all}
+use Rattle.round.proofs.Fetches.{collects_on, collects_all}
 use Rattle.round.proofs.whole.run.Goals as goal
-
-pub loop-holding-init : goal.loop-holding-init
-loop-holding-init g c =
-    collects_none g.F.Field.ops c.args.round.code c.args.round.node c.args.cells.now _ c.args.round c.requires.begun refl
 
 pub loop-holding-preserved : goal.loop-holding-preserved
 loop-holding-preserved g c =
