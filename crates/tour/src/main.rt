@@ -67,8 +67,8 @@ fn fetch_column(
     Err(Refusal::Outside)
 }
 
-// Rebuilds the cells of a node by a round over the cells of the others, column by column as the round goes
-// on.
+// Rebuilds the cells of a node by a round over the cells of the others. Here too the range only says when the
+// loop is over: which column is finished, the round says.
 fn run_round(code: &Code, node: usize, cells: &[u16; CELLS]) -> Result<Brought, Refusal> {
     let mut symbols = [0; COLUMNS];
     let mut asked = [false; NODES];
