@@ -1,6 +1,7 @@
 -- The smallest refusal that holds, from what the system decides.
 use Rattle.std.proofs.Common.{◌≡◌, ℕ, ◌+◌, ◌*◌, ◌<◌, ◌≤◌, List, ◌++◌, drop, length, get_or, Some, Ok, Err, Result, sym, ◌∙◌, mul-le-mul_left, arith, lit≤, rules}
 use Rattle.std.specs.Prelude.{OnErr}
+use Rattle.std.proofs.lemmas.Grind.{common_steps}
 use Rattle.std.proofs.lemmas.List.{places}
 use Rattle.field.specs.Laws.{Operations}
 use Rattle.code.specs.declared.record.Code.{Code}
@@ -15,17 +16,7 @@ use Rattle.solve.specs.Decisions.{NoForeign, Fails, Decided, DifferAt, TwoFit, O
 module _ (F : Operations) (code : Code) (held : Held) where
   module _ (row column work : ℕ) (room : front code ≤ work) (inside : (row < code.k) × (column < code.m)) where
     shared_7 : (f : Refusal) → SharedHolds F code held row column work f → 7 ≤ number f
-    shared_7 Bounds h = absurd h
-    shared_7 Shape h = absurd h
-    shared_7 Length h = absurd h
-    shared_7 Work h = absurd (omega arith)
-    shared_7 Outside h = absurd (h inside)
-    shared_7 Symbol h = absurd h
-    shared_7 (Foreign v c) h = lit≤ tt
-    shared_7 (Lost v c) h = absurd h
-    shared_7 Contradiction h = lit≤ tt
-    shared_7 Ambiguous h = lit≤ tt
-    shared_7 Allowance h = absurd h
+    shared_7 f h = grind (arith, common_steps)
 
     shared_9 : NoForeign F code held → (f : Refusal) → SharedHolds F code held row column work f → 9 ≤ number f
     shared_9 proper Bounds h = absurd h
@@ -41,17 +32,8 @@ module _ (F : Operations) (code : Code) (held : Held) where
     shared_9 proper Allowance h = absurd h
 
     shared_10 : NoForeign F code held → (u : List ℕ) → Fits F code held u → (f : Refusal) → SharedHolds F code held row column work f → 10 ≤ number f
-    shared_10 proper u U Bounds h = absurd h
-    shared_10 proper u U Shape h = absurd h
-    shared_10 proper u U Length h = absurd h
-    shared_10 proper u U Work h = absurd (omega arith)
-    shared_10 proper u U Outside h = absurd (h inside)
-    shared_10 proper u U Symbol h = absurd h
-    shared_10 proper u U (Foreign v c) h = absurd (proper v c h.0 h.1)
-    shared_10 proper u U (Lost v c) h = absurd h
-    shared_10 proper u U Contradiction h = absurd (h u U)
-    shared_10 proper u U Ambiguous h = lit≤ tt
-    shared_10 proper u U Allowance h = absurd h
+    shared_10 proper u U f h =
+        let no : ((v : List ℕ) → Fits F code held v → ⊥) → ⊥ = λ k. k u U in grind (arith, common_steps, proper, no)
 
     pub shared_answer : (r : Result ℕ Refusal) → Decided F code held (row * code.m + column) r → SharedSymbol F code held row column work r
     shared_answer (Ok v) D = (none, D.1)
@@ -83,17 +65,7 @@ module _ (F : Operations) (code : Code) (held : Held) where
   -- the front is cleared whatever is decided
   pub work_cleared : (Open : Type 0) (before after : List ℕ) → Cleared code before after → (e : Refusal) → Fails F code held Open e
       → WorkAfter code before (Err e) after
-  work_cleared Open before after C Bounds D = absurd D
-  work_cleared Open before after C Shape D = absurd D
-  work_cleared Open before after C Length D = absurd D
-  work_cleared Open before after C Work D = absurd D
-  work_cleared Open before after C Outside D = absurd D
-  work_cleared Open before after C Symbol D = absurd D
-  work_cleared Open before after C (Foreign v c) D = C
-  work_cleared Open before after C (Lost v c) D = absurd D
-  work_cleared Open before after C Contradiction D = C
-  work_cleared Open before after C Ambiguous D = C
-  work_cleared Open before after C Allowance D = absurd D
+  work_cleared Open before after C e D = grind (arith, common_steps)
 
   pub decided_cleared : (place : ℕ) (before after : List ℕ) → Cleared code before after → (r : Result ℕ Refusal) → Decided F code held place r
       → WorkAfter code before r after
@@ -102,17 +74,7 @@ module _ (F : Operations) (code : Code) (held : Held) where
 
   module _ (work : ℕ) (room : front code ≤ work) where
     only_7 : (f : Refusal) → OnlyHolds F code held work f → 7 ≤ number f
-    only_7 Bounds h = absurd h
-    only_7 Shape h = absurd h
-    only_7 Length h = absurd h
-    only_7 Work h = absurd (omega arith)
-    only_7 Outside h = absurd h
-    only_7 Symbol h = absurd h
-    only_7 (Foreign v c) h = lit≤ tt
-    only_7 (Lost v c) h = absurd h
-    only_7 Contradiction h = lit≤ tt
-    only_7 Ambiguous h = lit≤ tt
-    only_7 Allowance h = absurd h
+    only_7 f h = grind (arith, common_steps)
 
     only_9 : NoForeign F code held → (f : Refusal) → OnlyHolds F code held work f → 9 ≤ number f
     only_9 proper Bounds h = absurd h
@@ -128,17 +90,8 @@ module _ (F : Operations) (code : Code) (held : Held) where
     only_9 proper Allowance h = absurd h
 
     only_10 : NoForeign F code held → (u : List ℕ) → Fits F code held u → (f : Refusal) → OnlyHolds F code held work f → 10 ≤ number f
-    only_10 proper u U Bounds h = absurd h
-    only_10 proper u U Shape h = absurd h
-    only_10 proper u U Length h = absurd h
-    only_10 proper u U Work h = absurd (omega arith)
-    only_10 proper u U Outside h = absurd h
-    only_10 proper u U Symbol h = absurd h
-    only_10 proper u U (Foreign v c) h = absurd (proper v c h.0 h.1)
-    only_10 proper u U (Lost v c) h = absurd h
-    only_10 proper u U Contradiction h = absurd (h u U)
-    only_10 proper u U Ambiguous h = lit≤ tt
-    only_10 proper u U Allowance h = absurd h
+    only_10 proper u U f h =
+        let no : ((v : List ℕ) → Fits F code held v → ⊥) → ⊥ = λ k. k u U in grind (arith, common_steps, proper, no)
 
     pub only_none : (w : List ℕ) → NoForeign F code held → OnlyFront F code held w → (e : Refusal) → OnlyHolds F code held work e → ⊥
     only_none w proper O Bounds h = h

@@ -130,17 +130,6 @@ module _ (code : Code) (cells : List (Option ℕ)) where
             at (inl h) = inl (h.2, clear)
             at (inr h) = inr h.1
 
-    pub loaded_known : KnownRows (code.k * code.m) known (entry (code.k * code.m) w)
-    loaded_known p lp m = at (R p lp)
-      where
-        at : LoadedRow code cells (code.k * code.m) w known p
-            → (entry (code.k * code.m) w p p ≡ 1) × ((c : ℕ) → c < code.k * code.m → (c ≡ p → ⊥) → entry (code.k * code.m) w p c ≡ 0)
-        at (inl h) = (h.2, h.3)
-        at (inr h) = absurd (differ (sym m ∙ h.2))
-          where
-            differ : ◌≡◌ {A = Bool} true false → ⊥
-            differ e = let z : ◌≡◌ {A = ℕ} 0 1 = cc in omega arith
-
     -- the data cell of a place in the stripe of u is the symbol of u there
     data_cell : (y : ℕ → Symbols) → Factors F code y → (u : ℕ → ℕ) → Vector F code u → (j t : ℕ) → j < code.k → t < code.m
         → cell_of F code y u j t ≡ u (j * code.m + t)

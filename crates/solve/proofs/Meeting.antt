@@ -88,9 +88,6 @@ module _ (F : Operations) (code : Code) (cells : List (Option ℕ)) (known : Lis
   N : ℕ
   N = code.k * code.m
 
-  pub took_start : Reduced F (code.k * code.m) A → KnownRows (code.k * code.m) known A → TookAll F code cells known 0 A A
-  took_start R K = record { reduced = R; known_rows = K; solutions = λ y Y u U. (λ h. h.0, λ s. (s, λ x l. absurd (omega arith))) }
-
   pub took_more : {U : Type 0} (t : U) (x : ℕ) (B C : ℕ → ℕ → ℕ) → x < cell_count code → TookAll F code cells known x A B
       → Took {U = U} F code cells known x B (Ok t) C → TookAll F code cells known (x + 1) A C
   took_more t x B C lx T S = record { reduced = S.reduced; known_rows = S.known_rows; solutions = solutions }

@@ -40,9 +40,6 @@ pub record RowUpTo (width s done : ℕ) (f : ℕ → ℕ) (before after : List �
   pub ahead : (i : ℕ) → i < s * width → get_or after i 0 ≡ get_or before i 0
   pub behind : (i : ℕ) → s * width + done ≤ i → get_or after i 0 ≡ get_or before i 0
 
-pub row_none : (width s : ℕ) (f : ℕ → ℕ) (w : List ℕ) → RowUpTo width s 0 f w w
-row_none width s f w = record { inside = λ c l. absurd (omega arith); ahead = λ i l. refl; behind = λ i l. refl }
-
 pub row_more : (width s done : ℕ) (f : ℕ → ℕ) (before after : List ℕ) (v : ℕ) → RowUpTo width s done f before after
     → s * width + done < length after → v ≡ f done → RowUpTo width s (done + 1) f before (set after (s * width + done) v)
 row_more width s done f before after v R l e = record { inside = inside; ahead = ahead; behind = behind }
@@ -59,14 +56,6 @@ row_more width s done f before after v R l e = record { inside = inside; ahead =
 
     behind : (i : ℕ) → s * width + (done + 1) ≤ i → get_or (set after (s * width + done) v) i 0 ≡ get_or before i 0
     behind i h = let d : i ≢ s * width + done = omega arith in get_or-set_other after (s * width + done) i v 0 d ∙ R.behind i (omega arith)
-
-pub row_whole : (width s done : ℕ) (f : ℕ → ℕ) (before after : List ℕ) → done ≡ width → RowUpTo width s done f before after
-    → RowIs width s f before after
-row_whole width s done f before after e R = record {
-  inside = λ c h. R.inside c (omega arith);
-  ahead = R.ahead;
-  behind = λ i h. R.behind i (omega arith);
-}
 
 -- the numbers of two different rows lie apart
 pub rows_apart : (width s p c : ℕ) → c < width → (p ≡ s → ⊥) → (p * width + c < s * width) ⊎ (s * width + width ≤ p * width + c)
@@ -98,19 +87,6 @@ front_more p x f before after l e done rest = (more, λ i h. let d : i ≢ p = o
         by_case : Dec (i ≡ p) → get_or (set after p x) i 0 ≡ f i
         by_case (yes q) = rw q (get_or-set_same after p x 0 l ∙ e)
         by_case (no q) = get_or-set_other after p i x 0 q ∙ done i (omega arith)
-
--- a memory cleared from n on
-pub tail_more : (n p : ℕ) (before after : List ℕ) → n ≤ p → p < length after
-    → ((i : ℕ) → i < n → get_or after i 0 ≡ get_or before i 0) → ((i : ℕ) → n ≤ i → i < p → get_or after i 0 ≡ 0)
-    → ((i : ℕ) → i < n → get_or (set after p 0) i 0 ≡ get_or before i 0) × ((i : ℕ) → n ≤ i → i < p + 1 → get_or (set after p 0) i 0 ≡ 0)
-tail_more n p before after le l kept zeros = (λ i h. let d : i ≢ p = omega arith in get_or-set_other after p i 0 0 d ∙ kept i h, more)
-  where
-    more : (i : ℕ) → n ≤ i → i < p + 1 → get_or (set after p 0) i 0 ≡ 0
-    more i h h' = by_case (ℕ_discrete i p)
-      where
-        by_case : Dec (i ≡ p) → get_or (set after p 0) i 0 ≡ 0
-        by_case (yes q) = rw q (get_or-set_same after p 0 0 l)
-        by_case (no q) = get_or-set_other after p i 0 0 q ∙ zeros i h (omega arith)
 
 -- the right side of equation p stands behind number p
 pub right_behind : (n p : ℕ) → p ≤ p * (n + 1) + n

@@ -17,9 +17,6 @@ pub record OutUpTo (F : Operations) (N c from : ℕ) (before after : List ℕ) :
   pub rest : (p j : ℕ) → from ≤ p → j < N + 1 → entry N after p j ≡ entry N before p j
   pub kept : (j : ℕ) → j < N + 1 → entry N after c j ≡ entry N before c j
 
-pub out_none : (F : Operations) (N c : ℕ) (w : List ℕ) → OutUpTo F N c 0 w w
-out_none F N c w = record { done = λ p j l. absurd (omega arith); rest = λ p j l m. refl; kept = λ j l. refl }
-
 module _ (F : Operations) (L : Laws F) (N c : ℕ) (lc : c < N) (before after : List ℕ) where
   -- equations without a factor at c stay as they are
   pub out_skip : (from s : ℕ) → from ≤ s → s ≤ N → ((p j : ℕ) → p < N → j < N + 1 → entry N before p j < F.q)
@@ -77,10 +74,6 @@ pub record RemainderUpTo (F : Operations) (N i : ℕ) (A : ℕ → ℕ → ℕ) 
   pub free : (p : ℕ) → p < i → p < N → Pivot N A p → rest p ≡ 0
   pub same : (u : ℕ → ℕ) → Solution F N A u → (Keeps F N row u ↔ Keeps F N rest u)
 
-pub remainder_none : (F : Operations) (N : ℕ) (A : ℕ → ℕ → ℕ) (row : ℕ → ℕ) → ((c : ℕ) → c < N + 1 → row c < F.q)
-    → RemainderUpTo F N 0 A row row
-remainder_none F N A row b = record { below = b; free = λ p l. absurd (omega arith); same = λ u s. (λ h. h, λ h. h) }
-
 -- a symbol without an equation, or without a factor in the row
 pub remainder_skip : (F : Operations) (N i : ℕ) (A : ℕ → ℕ → ℕ) (row rest : ℕ → ℕ) → (A i i ≡ 0) ⊎ (rest i ≡ 0)
     → RemainderUpTo F N i A row rest → RemainderUpTo F N (i + 1) A row rest
@@ -121,9 +114,6 @@ remainder_take F L N i A row mid rest X li ne e R = record { below = below; free
     same u s =
         let step = keeps_subtract F L N mid (A i) rest u (mid i) (R.below N (omega arith)) e (s i li) in
         (λ h. step.0 ((R.same u s).0 h), λ h. (R.same u s).1 (step.1 h))
-
-pub remainder_whole : (F : Operations) (N i : ℕ) (A : ℕ → ℕ → ℕ) (row rest : ℕ → ℕ) → N ≤ i → RemainderUpTo F N i A row rest → Remainder F N A row rest
-remainder_whole F N i A row rest le R = record { below = R.below; free = λ p l piv. R.free p (omega arith) l piv; same = R.same }
 
 -- where p is known, only its own factor and the right side change
 pub take_known : (F : Operations) (L : Laws F) (N p : ℕ) (A : ℕ → ℕ) (row : List ℕ) (x : ℕ) → p < N → length row ≡ N + 1
