@@ -6,7 +6,7 @@ ghost use Rattle.encode.specs.Encoding.{in_memory};
 ghost use Rattle.solve.specs.Factors.{ColumnOf, ColumnTable, Weight, IsEquation};
 
 use crate::numbers::times;
-use code::{Code, MOST_CELLS};
+use code::{Code, MOST_CELLS, MOST_NODES};
 use encode::encode;
 use field::{Field, power};
 
@@ -40,8 +40,9 @@ fn unit_column<F: Field>(
 {
     encode_unit::<F>(code, j, file, cells);
     let columns = code.columns();
+    // by index: a row of the table has 64 numbers, and one of the cells as many as there are columns
     for v in 0..code.nodes() {
-        table[v * 64 + j] = cells[v * columns];
+        table[v * MOST_NODES + j] = cells[v * columns];
     }
 }
 
@@ -94,8 +95,9 @@ fn put_factors<F: Field>(
         → slice_index row.new i ≡ slice_index row.old i }
 {
     let m = code.data_columns();
+    // by index: the numbers that are written stand m apart
     for j in 0..code.data_nodes() {
-        row[j * m + t] = times::<F>(scale, u32::from(table[w * 64 + j]));
+        row[j * m + t] = times::<F>(scale, u32::from(table[w * MOST_NODES + j]));
     }
 }
 

@@ -21,10 +21,10 @@ use field::Field;
 use reading::{decide, find_only};
 use store::Store;
 
-// The symbol that all fitting files share at the place (row, column). Declined with 4 if the work memory is below
-// k·m·(k·m + 1) numbers, with 5 if the place is outside, with 7 for the first present cell that is no symbol, with 9 if
-// no file fits, and with 10 if two fitting files differ there. The front of the work memory holds zeros afterwards,
-// unless it is 4 or 5; the numbers behind it are kept.
+/// The symbol that all fitting files share at the place (row, column). Declined with 4 if the work memory is below
+/// k·m·(k·m + 1) numbers, with 5 if the place is outside, with 7 for the first present cell that is no symbol, with
+/// 9 if no file fits, and with 10 if two fitting files differ there. The front of the work memory holds zeros
+/// afterwards, unless it is 4 or 5; the numbers behind it are kept.
 pub fn shared_symbol<F: Field, S: Store>(
     code: &Code,
     store: &S,
@@ -47,9 +47,9 @@ pub fn shared_symbol<F: Field, S: Store>(
     decide::<F, S>(code, store, place, &mut work[..size])
 }
 
-// Leaves the only fitting file in the first k·m numbers of the work memory, with zeros in the rest of the front, and
-// returns k·m. Declined with 4, 7, 9, and with 10 if two different files fit; the front then holds zeros, unless it is 4.
-// The numbers behind the front are kept.
+/// Leaves the only fitting file in the first k·m numbers of the work memory, with zeros in the rest of the front, and
+/// returns k·m. Declined with 4, 7, 9, and with 10 if two different files fit; the front then holds zeros, unless it
+/// is 4. The numbers behind the front are kept.
 pub fn only_file<F: Field, S: Store>(
     code: &Code,
     store: &S,

@@ -9,7 +9,7 @@ use field::Field;
 fn operand(x: u32) -> u16
     ensures { result ≡ operand x }
 {
-    if x < 65536 { x as u16 } else { 0 }
+    u16::try_from(x).unwrap_or(0)
 }
 
 pub(crate) fn times<F: Field>(u: u32, v: u32) -> u32

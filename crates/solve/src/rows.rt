@@ -37,6 +37,7 @@ pub(crate) fn subtract_row<F: Field>(work: &mut [u32], width: usize, s: usize, p
         (λ c. F.ops.sub (slice_index work.old (s * width + c)) (F.ops.mul by (slice_index work.old (p * width + c))))
         work.old work.new }
 {
+    // by index: both rows lie in the one slice, and either may come first
     for c in 0..width {
         work[s * width + c] = minus::<F>(work[s * width + c], times::<F>(by, work[p * width + c]));
     }

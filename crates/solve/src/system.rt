@@ -8,7 +8,8 @@ use crate::rows::{next_usable, put_row, scale_row, subtract_row};
 use code::{MOST_SYMBOLS, Refusal};
 use field::Field;
 
-// n equations in lent memory, one after the other: the n factors of each, and then its right side.
+// n equations in lent memory, one after the other: the n factors of each, and then its right side. That the form is
+// reduced, and which symbols are known, stands in the clauses and not here: while an equation goes in it does not hold.
 #[derive(Drop)]
 pub(crate) struct Equations<'w> {
     pub(crate) numbers: &'w mut [u32],
@@ -88,6 +89,7 @@ impl<'w> Equations<'w> {
     {
         let n = self.n;
         let numbers = &mut *self.numbers;
+        // by index: what is read stands n + 1 apart, in the slice that is written
         for p in 0..n {
             numbers[p] = numbers[p * (n + 1) + n];
         }
@@ -110,6 +112,7 @@ impl<'w> Equations<'w> {
         let width = self.n + 1;
         let numbers = &mut *self.numbers;
         let mut from = 0;
+        // no filter over all equations: they change while it would run
         while let Some(s) = next_usable(numbers, width, c, from) {
             if s != c {
                 let by = numbers[s * width + c];
@@ -212,7 +215,7 @@ fn subtract_from<F: Field>(row: &mut [u32], other: &[u32], by: u32)
     ensures { (c : ℕ) → c < length row.old
         → slice_index row.new c ≡ F.ops.sub (slice_index row.old c) (F.ops.mul by (slice_index other.now c)) }
 {
-    // a zip of both rows is not used: nothing is known of what its loop writes to the row
+    // no zip of the two rows: the proof did not close, since nothing is known of what a loop over it writes
     for (c, x) in row.iter_mut().enumerate() {
         *x = minus::<F>(*x, times::<F>(by, other[c]));
     }
