@@ -70,7 +70,9 @@ lines('while and loop', r'^\s*(while|loop)\b')
 print('4. equality, order, copying, conversion and printing')
 lines('implementations of Display', r'impl.* Display for|impl.* fmt::Display for')
 lines('conversions by as', r'\bas (u8|u16|u32|u64|usize)\b')
-lines('types with no derive', r'^\s*(pub )?(struct|enum) ')
+tell('types that derive nothing, or Drop alone',
+     [f'{f}:{k}: {l.strip()}' for (f, k, l), (_, _, before) in zip(LINES[1:], LINES)
+      if re.match(r'(pub(\(crate\))? )?(struct|enum) ', l) and not re.search(r'derive\((?!Drop\))', before)])
 print('5. facts and parameters that go together')
 facts = collections.defaultdict(set)
 for f, k, name, p, r in FUNCTIONS:
