@@ -191,20 +191,16 @@ absorbed_some t F L N known A B row rest c X K R lc ne I = record {
             ∙ ap (λ t. F.sub (A p j) (F.mul t (B c j))) ((K p l m).1 c lc (λ e. away (sym e)))
             ∙ ap (F.sub (A p j)) (n.zero-mul F L (B c j)) ∙ n.sub-zero F L (A p j) (X.below p j l lj)
 
--- a row put in place of equation c and scaled
-module _ (F : Operations) (L : Laws F) (N c by : ℕ) (row before put scaled : List ℕ)
-    (P : RowIs (N + 1) c (λ j. get_or row j 0) before put)
-    (S : RowIs (N + 1) c (λ j. F.mul by (entry N put c j)) put scaled) where
-  scaled_here : (j : ℕ) → j < N + 1 → entry N scaled c j ≡ F.mul by (get_or row j 0)
-  scaled_here j l = S.inside j l ∙ ap (F.mul by) (P.inside j l)
-
+-- a multiple of a row put in place of equation c
+module _ (F : Operations) (L : Laws F) (N c by : ℕ) (row before scaled : List ℕ)
+    (S : RowIs (N + 1) c (λ j. F.mul by (get_or row j 0)) before scaled) where
   scaled_other : (p j : ℕ) → j < N + 1 → (p ≡ c → ⊥) → entry N scaled p j ≡ entry N before p j
-  scaled_other p j l d = row_other (N + 1) c _ put scaled S p j l d ∙ row_other (N + 1) c _ before put P p j l d
+  scaled_other p j l d = row_other (N + 1) c _ before scaled S p j l d
 
   pub scaled_below : ((p j : ℕ) → p < N → j < N + 1 → entry N before p j < F.q) → (p j : ℕ) → p < N → j < N + 1 → entry N scaled p j < F.q
   scaled_below below p j lp lj =
       elim (ℕ_discrete p c) [
-        | yes e ↦ rw (e, scaled_here j lj) (L.mul_below by (get_or row j 0))
+        | yes e ↦ rw (e, S.inside j lj) (L.mul_below by (get_or row j 0))
         | no d ↦ rw (scaled_other p j lj d) (below p j lp lj)
       ]
 
@@ -214,7 +210,7 @@ module _ (F : Operations) (L : Laws F) (N c by : ℕ) (row before put scaled : L
       → entry N after p j ≡ F.sub (entry N scaled p j) (F.mul (entry N scaled p c) (entry N scaled c j)))
       → Installed F N c (λ j. get_or row j 0) (entry N before) (entry N after)
   installed after lc e kept others = record {
-    here = λ j l. kept j l ∙ scaled_here j l ∙ ap (λ t. F.mul t (get_or row j 0)) e;
+    here = λ j l. kept j l ∙ S.inside j l ∙ ap (λ t. F.mul t (get_or row j 0)) e;
     others = λ p j lp lj d.
         others p j lp lj d
         ∙ ap₂ (λ x y. F.sub x (F.mul y (entry N scaled c j))) (scaled_other p j lj d) (scaled_other p c (omega arith) d)

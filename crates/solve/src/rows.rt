@@ -14,23 +14,20 @@ fn scale<F: Field>(row: &mut [u32], by: u32)
     }
 }
 
-// Multiplies row s.
-pub(crate) fn scale_row<F: Field>(work: &mut [u32], width: usize, s: usize, by: u32)
-    requires row { s < 504 }
-    requires narrow { width < 506 }
-    requires inside { s * width + width ≤ length work.old }
-    ensures { RowIs width s (λ c. F.ops.mul by (slice_index work.old (s * width + c))) work.old work.new }
+// Puts a multiple of a row in place of row s, where all rows are as long.
+pub(crate) fn put_row<F: Field>(work: &mut [u32], s: usize, row: &[u32], by: u32)
+    requires { s * length row.now + length row.now ≤ length work.old }
+    ensures { RowIs (length row.now) s (λ c. F.ops.mul by (slice_index row.now c)) work.old work.new }
 {
-    let a = s * width;
-    scale::<F>(&mut work[a..a + width], by);
+    let a = s * row.len();
+    let place = &mut work[a..a + row.len()];
+    place.copy_from_slice(row);
+    scale::<F>(place, by);
 }
 
 // Takes `by` times row p from row s.
 pub(crate) fn subtract_row<F: Field>(work: &mut [u32], width: usize, s: usize, p: usize, by: u32)
-    requires row { s < 504 }
-    requires other { p < 504 }
     requires differ { s ≢ p }
-    requires narrow { width < 506 }
     requires inside { s * width + width ≤ length work.old }
     requires other_inside { p * width + width ≤ length work.old }
     ensures { RowIs width s
@@ -43,22 +40,8 @@ pub(crate) fn subtract_row<F: Field>(work: &mut [u32], width: usize, s: usize, p
     }
 }
 
-// Puts a row of as many numbers as the width in place of row s.
-pub(crate) fn put_row(work: &mut [u32], width: usize, s: usize, row: &[u32])
-    requires row { s < 504 }
-    requires narrow { width < 506 }
-    requires long { width ≤ length row.now }
-    requires inside { s * width + width ≤ length work.old }
-    ensures { RowIs width s (λ c. slice_index row.now c) work.old work.new }
-{
-    let a = s * width;
-    work[a..a + width].copy_from_slice(&row[..width]);
-}
-
 // The next equation, from a given place on, whose factor at the symbol is not 0. There are width − 1 equations.
 pub(crate) fn next_usable(work: &[u32], width: usize, symbol: usize, from: usize) -> Option<usize>
-    requires some { 0 < width }
-    requires narrow { width < 506 }
     requires symbol { symbol < width }
     requires front { length work.now ≡ (width - 1) * width }
     ensures { Usable width (width - 1) symbol from work.now result }

@@ -4,7 +4,7 @@ ghost use Rattle.std.specs.Bool.{MatchBool};
 ghost use Rattle.solve.specs.Systems.{entry, FirstFactor};
 
 use crate::numbers::{inverse, minus, times};
-use crate::rows::{next_usable, put_row, scale_row, subtract_row};
+use crate::rows::{next_usable, put_row, subtract_row};
 use code::{MOST_SYMBOLS, Refusal};
 use field::Field;
 
@@ -133,8 +133,7 @@ impl<'w> Equations<'w> {
         ensures installed { Installed F.ops self.old.n c (λ j. slice_index row.now j)
             (entry self.old.n self.old.numbers.now) (entry self.old.n self.new.numbers.now) }
     {
-        put_row(self.numbers, self.n + 1, c, row);
-        scale_row::<F>(self.numbers, self.n + 1, c, inverse::<F>(row[c]));
+        put_row::<F>(self.numbers, c, row, inverse::<F>(row[c]));
         self.eliminate::<F>(c);
     }
 

@@ -14,10 +14,7 @@ subtract_row-requires g c =
     let low : c.in-Some.s < c.args.self.now.n = omega (arith, c.in-Some.ensures) in
     let lc : c.args.c < c.args.self.now.n = omega arith in
     record {
-      row = omega arith;
-      other = omega arith;
       differ = c.if-s-c.true;
-      narrow = omega arith;
       inside = omega (arith, row_inside (c.args.self.now.n + 1) c.args.self.now.n c.in-Some.s low);
       other_inside = omega (arith, row_inside (c.args.self.now.n + 1) c.args.self.now.n c.args.c lc);
     }

@@ -1,4 +1,5 @@
-use Rattle.std.proofs.Common.{◌+◌, ◌<◌, arith}
+use Rattle.std.proofs.Common.{◌≡◌, ℕ, ◌+◌, ◌*◌, ◌<◌, ◌≤◌, length, get_or, ap, subst, arith}
+use Rattle.solve.specs.Rows.{RowIs}
 use Rattle.solve.proofs.Memory.{row_inside}
 use Rattle.solve.proofs.Steps.{scaled_below, installed}
 use Rattle.solve.proofs.system.Equations.install.Goals as goal
@@ -6,31 +7,24 @@ use Rattle.solve.proofs.system.Equations.install.Goals as goal
 pub put_row-requires : goal.put_row-requires
 put_row-requires g c =
     let lc : c.args.c < c.args.self.now.n = omega arith in
-    record {
-      row = omega arith;
-      narrow = omega arith;
-      long = omega arith;
-      inside = omega (arith, row_inside (c.args.self.now.n + 1) c.args.self.now.n c.args.c lc);
-    }
-
-pub scale_row-requires : goal.scale_row-requires
-scale_row-requires g c =
-    let lc : c.args.c < c.args.self.now.n = omega arith in
-    record {
-      row = omega arith;
-      narrow = omega arith;
-      inside = omega (arith, row_inside (c.args.self.now.n + 1) c.args.self.now.n c.args.c lc);
-    }
+    rw c.requires.row (omega (arith, row_inside (c.args.self.now.n + 1) c.args.self.now.n c.args.c lc))
 
 pub eliminate-requires : goal.eliminate-requires
-eliminate-requires g c = record {
-  symbol = c.requires.symbol;
-  below = scaled_below g.F.Field.ops g.met.F.Field.laws c.args.self.now.n c.args.c c.inverse.result c.args.row.now
-      c.args.self.now.numbers.now c.put_row.new.work c.scale_row.new.work c.put_row.ensures c.scale_row.ensures c.requires.below;
-}
+eliminate-requires g c =
+    let F = g.F.Field.ops in
+    let made = subst (λ t. RowIs t c.args.c (λ j. F.mul c.inverse.result (get_or c.args.row.now j 0)) c.args.self.now.numbers.now c.put_row.new.work)
+    c.requires.row c.put_row.ensures in
+    record {
+      symbol = c.requires.symbol;
+      below = scaled_below F g.met.F.Field.laws c.args.self.now.n c.args.c c.inverse.result c.args.row.now
+          c.args.self.now.numbers.now c.put_row.new.work made c.requires.below;
+    }
 
 pub returns-clause-installed : goal.returns-clause-installed
 returns-clause-installed g c =
-    installed g.F.Field.ops g.met.F.Field.laws c.args.self.now.n c.args.c c.inverse.result c.args.row.now
-    c.args.self.now.numbers.now c.put_row.new.work c.scale_row.new.work c.put_row.ensures c.scale_row.ensures
+    let F = g.F.Field.ops in
+    let made = subst (λ t. RowIs t c.args.c (λ j. F.mul c.inverse.result (get_or c.args.row.now j 0)) c.args.self.now.numbers.now c.put_row.new.work)
+    c.requires.row c.put_row.ensures in
+    installed F g.met.F.Field.laws c.args.self.now.n c.args.c c.inverse.result c.args.row.now
+    c.args.self.now.numbers.now c.put_row.new.work made
     c.eliminate.new.self.numbers.now c.requires.symbol c.inverse.ensures c.eliminate.ensures.kept c.eliminate.ensures.others
