@@ -6,7 +6,7 @@ ghost use Rattle.encode.specs.Encoding.{in_memory};
 ghost use Rattle.solve.specs.Factors.{ColumnOf, ColumnTable, Weight, IsEquation};
 
 use crate::numbers::times;
-use code::{Code, MOST_CELLS, MOST_NODES};
+use code::{Code, MOST_CELLS, MOST_NODES, MOST_SYMBOLS};
 use encode::encode;
 use field::{Field, power};
 
@@ -25,20 +25,15 @@ fn encode_unit<F: Field>(code: &Code, j: usize, file: &mut [u16], cells: &mut [u
 }
 
 // Column j of the table: the data column that is 1 at data node j and 0 at the others.
-fn unit_column<F: Field>(
-    code: &Code,
-    j: usize,
-    file: &mut [u16],
-    cells: &mut [u16; MOST_CELLS],
-    table: &mut [u16; TABLE],
-)
-    requires node { j < code.now.k }
-    requires file { length file.old ≡ code.now.k * code.now.m }
+fn unit_column<F: Field>(code: &Code, j: usize, table: &mut [u16; TABLE])
+    requires { j < code.now.k }
     ensures made { ColumnOf F.ops code.now j table.new }
     ensures kept { (v i : ℕ) → i < 64 → (i ≢ j)
         → slice_index table.new (v * 64 + i) ≡ slice_index table.old (v * 64 + i) }
 {
-    encode_unit::<F>(code, j, file, cells);
+    let mut file = [0; MOST_SYMBOLS];
+    let mut cells = [0; MOST_CELLS];
+    encode_unit::<F>(code, j, &mut file[..code.file_length()], &mut cells);
     let columns = code.columns();
     // by index: a row of the table has 64 numbers, and one of the cells as many as there are columns
     for v in 0..code.nodes() {
@@ -46,19 +41,15 @@ fn unit_column<F: Field>(
     }
 }
 
-// The data columns of the k unit columns, one for each data node. The file and the cells are scratch memory.
-pub(crate) fn column_table<F: Field>(
-    code: &Code,
-    file: &mut [u16],
-    cells: &mut [u16; MOST_CELLS],
-    table: &mut [u16; TABLE],
-)
-    requires file { length file.old ≡ code.now.k * code.now.m }
-    ensures { ColumnTable F.ops code.now table.new }
+// The data columns of the k unit columns, one for each data node.
+pub(crate) fn column_table<F: Field>(code: &Code) -> [u16; TABLE]
+    ensures { ColumnTable F.ops code.now result }
 {
+    let mut table = [0; TABLE];
     for j in 0..code.data_nodes() {
-        unit_column::<F>(code, j, file, cells, table);
+        unit_column::<F>(code, j, &mut table);
     }
+    table
 }
 
 // How cell (v, c) depends on the symbols of data column t: by the cell (w, t) of that column, times a symbol.

@@ -28,10 +28,7 @@ fn build<F: Field>(
         (NoneMeets F.ops code.now cells.now) }
 {
     let n = code.file_length();
-    let mut table = [0u16; TABLE];
-    let mut file = [0u16; MOST_SYMBOLS];
-    let mut stripe = [0u16; MOST_CELLS];
-    column_table::<F>(code, &mut file[..n], &mut stripe, &mut table);
+    let table = column_table::<F>(code);
     let mut known = [false; MOST_SYMBOLS];
     equations.clear();
     load(code, cells, equations, &mut known);

@@ -3,4 +3,4 @@ use Rattle.solve.specs.Factors.{ColumnOf}
 use Rattle.solve.proofs.factors.column_table.Given as goal
 
 abbrev pub invariant-loop-j : goal.invariant-loop-j
-invariant-loop-j g l = (length l.cells ≡ 704) × (length l.table ≡ 4096) × ((j : ℕ) → j < l.j → ColumnOf g.F.Field.ops l.code j l.table)
+invariant-loop-j g l = (length l.table ≡ 4096) × ((j : ℕ) → j < l.j → ColumnOf g.F.Field.ops l.code j l.table)

@@ -24,6 +24,6 @@ pub returns : goal.returns
 returns g c =
     record {
       made = column_made g.F.Field.ops g.met.F.Field.laws c.args.code.now c.args.j c.columns-columns.result
-          c.encode_unit.new.cells c.loop-v.table c.requires.node c.columns-columns.ensures (λ v l. c.loop-v.invariant.1 v (omega arith)) c.encode_unit.ensures;
+          c.encode_unit.new.cells c.loop-v.table c.requires c.columns-columns.ensures (λ v l. c.loop-v.invariant.1 v (omega arith)) c.encode_unit.ensures;
       kept = c.loop-v.invariant.2;
     }
