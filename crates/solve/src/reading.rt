@@ -6,12 +6,13 @@ ghost use Rattle.solve.specs.Cells.{Listed};
 ghost use Rattle.solve.specs.Decisions.{Complete, NoneMeets, Built, Decided, OnlyDecided};
 
 use crate::cells::gather;
-use crate::factors::{TABLE, column_table};
+use crate::factors::column_table;
 use crate::front::Front;
 use crate::system::Equations;
-use crate::taking::{load, take_cells};
+use crate::taking::{Listing, ROW};
 use code::{Code, MOST_CELLS, MOST_SYMBOLS, Refusal};
 use field::Field;
+use std::marker::PhantomData;
 use store::Store;
 
 // Makes the equations the system of the listed cells, unless they contradict one another.
@@ -27,13 +28,17 @@ fn build<F: Field>(
     ensures built { Unless result (Complete F.ops code.now cells.now equations.new.numbers.now)
         (NoneMeets F.ops code.now cells.now) }
 {
-    let n = code.file_length();
     let table = column_table::<F>(code);
+    let listing = Listing::<F> {
+        code,
+        cells,
+        table: &table,
+        field: PhantomData,
+    };
     let mut known = [false; MOST_SYMBOLS];
     equations.clear();
-    load(code, cells, equations, &mut known);
-    let mut row = [0u32; 505];
-    take_cells::<F>(code, cells, &table, &known, &mut row[..n + 1], equations)
+    listing.load(equations, &mut known);
+    listing.take_cells(&known, &mut [0; ROW], equations)
 }
 
 // Makes the equations the system of the store's cells.

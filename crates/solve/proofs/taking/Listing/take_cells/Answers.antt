@@ -2,13 +2,13 @@ use Rattle.std.proofs.Common.{rules, ◌≡◌, ◌*◌, Ok, Err, ◌∙◌, sub
 use Rattle.solve.specs.Systems.{entry}
 use Rattle.solve.specs.Cells.{Took}
 use Rattle.solve.proofs.Meeting.{took_more, took_stop}
-use Rattle.solve.proofs.taking.take_cells.Goals as goal
+use Rattle.solve.proofs.taking.Listing.take_cells.Goals as goal
 
 pub returns-in_err-take_cell-clause-took : goal.returns-in_err-take_cell-clause-took
 returns-in_err-take_cell-clause-took g c =
     let F = g.F.Field.ops in
-    let code = c.args.code.now in
-    let cells = c.args.cells.now in
+    let code = c.args.self.now.code.now in
+    let cells = c.args.self.now.cells.now in
     let known = c.args.known.now in
     let N = c.args.equations.now.n in
     let x = c.loop-x.x in
@@ -21,8 +21,8 @@ returns-in_err-take_cell-clause-took g c =
 pub loop-x-preserved : goal.loop-x-preserved
 loop-x-preserved g c =
     let F = g.F.Field.ops in
-    let code = c.args.code.now in
-    let cells = c.args.cells.now in
+    let code = c.args.self.now.code.now in
+    let cells = c.args.self.now.cells.now in
     let known = c.args.known.now in
     let N = c.args.equations.now.n in
     let x = c.loop-x.x in

@@ -1,19 +1,19 @@
 use Rattle.std.proofs.Common.{rules, ◌≡◌, ◌+◌, ◌*◌, ◌<◌, get_or, None, sym, ap, ◌∙◌, arith}
 use Rattle.solve.proofs.Loading.{cell_number, load_skip, load_enter_as}
-use Rattle.solve.proofs.taking.load.Goals as goal
-use Rattle.solve.proofs.taking.load.Goals.{in-Some, in_default}
+use Rattle.solve.proofs.taking.Listing.load.Goals as goal
+use Rattle.solve.proofs.taking.Listing.load.Goals.{in-Some, in_default}
 
 pub loop-p-preserved : goal.loop-p-preserved
-loop-p-preserved c =
-    let code = c.args.code.now in
-    let cells = c.args.cells.now in
+loop-p-preserved g c =
+    let code = c.args.self.now.code.now in
+    let cells = c.args.self.now.cells.now in
     let p = c.loop-p.p in
     let now = c.loop-p.equations in
     let inv = c.loop-p.invariant in
-    let l : c.loop-p.p < c.args.code.now.k * c.args.code.now.m = omega arith in
+    let l : c.loop-p.p < c.args.self.now.code.now.k * c.args.self.now.code.now.m = omega arith in
     let at = cell_number code p c.data_columns-m.result c.columns-columns.result c.data_columns-m.ensures c.columns-columns.ensures in
-    let length : c.loop-p.equations.n ≡ c.args.code.now.k * c.args.code.now.m = inv.0 ∙ c.requires.length in
-    elim c.match-cells-p.branch [
+    let length : c.loop-p.equations.n ≡ c.args.self.now.code.now.k * c.args.self.now.code.now.m = inv.0 ∙ c.requires.length in
+    elim c.match-self-p.branch [
       | in-Some w ↦
           rw (w.equations-is, w.known-is) (
             w.enter.ensures.size ∙ inv.0,
