@@ -9,7 +9,7 @@ use Rattle.code.specs.declared.record.Code.{Code}
 use Rattle.code.specs.Stripe.{Symbols, width}
 use Rattle.code.proofs.Places.{place_injective, place_below}
 use Rattle.theorems.proofs.Files.{place_node}
-use Rattle.solve.specs.Systems.{entry, Keeps, Solution, Pivot, Empty, Reduced, KnownRows}
+use Rattle.solve.specs.Systems.{entry, Keeps, Solution, Pivot, Empty, Reduced}
 use Rattle.encode.specs.Encoding.{cell_count}
 use Rattle.solve.specs.Cells.{Listed, Loaded, LoadedRow, DataMet, Meets, Factors, Vector, cell_at, cell_of}
 use Rattle.solve.proofs.Places.{place_of, place_split, width_positive, few_symbols}

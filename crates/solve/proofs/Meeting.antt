@@ -12,7 +12,7 @@ use Rattle.code.specs.Stripe.{Symbols, width}
 use Rattle.theorems.specs.Linear.{IsFactor}
 use Rattle.theorems.proofs.Files.{single_file}
 use Rattle.theorems.proofs.Stripes.{stripe_of, stripe_exists}
-use Rattle.solve.specs.Systems.{Keeps, Solution, Reduced, KnownRows, Absorbed, Unless}
+use Rattle.solve.specs.Systems.{Keeps, Solution, Absorbed, Unless}
 use Rattle.solve.specs.Factors.{IsEquation}
 use Rattle.encode.specs.Encoding.{cell_count}
 use Rattle.solve.specs.Cells.{Took, TookAll, Contradicts, DataMet, DataCell, Meets, Factors, Vector, cell_of}

@@ -14,6 +14,7 @@ pub(crate) fn gather<F: Field, S: Store>(
 {
     let columns = code.columns();
     let mut cells = [None; MOST_CELLS];
+    // by index: x is divided into a node and a column
     for x in 0..code.nodes() * columns {
         let (node, column) = (x / columns, x % columns);
         match store.cell(node, column) {

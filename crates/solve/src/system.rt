@@ -166,6 +166,7 @@ impl<'w> Equations<'w> {
         ensures { Remainder F.ops self.now.n (entry self.now.n self.now.numbers.now)
             (λ c. slice_index row.old c) (λ c. slice_index row.new c) }
     {
+        // by index: p is a symbol, with a number in the row and an equation of its own
         for p in 0..self.n {
             if self.numbers[p * (self.n + 1) + p] != 0 && row[p] != 0 {
                 self.take_out::<F>(known, p, row);

@@ -1,5 +1,5 @@
 // The system of all present cells.
-ghost use Rattle.std.specs.Prelude.{◌≡◌, ℕ, ◌+◌, ◌*◌, ◌<◌, length};
+ghost use Rattle.std.specs.Prelude.{◌≡◌, ◌*◌, ◌<◌};
 ghost use Rattle.solve.specs.Systems.{entry, Reduced, KnownRows, Unless};
 ghost use Rattle.solve.specs.Factors.{ColumnTable};
 ghost use Rattle.encode.specs.Encoding.{cell_count};
@@ -15,6 +15,8 @@ use std::marker::PhantomData;
 pub(crate) const ROW: usize = 505;
 
 // The cells of a store, each a symbol or lost, and the table of which the equations of the present ones are made.
+// That there is an equation for each symbol of a file stays a clause of the methods: in a struct around `Equations` the
+// proof did not close, since nothing is known afterwards of the numbers that it borrows.
 #[derive(Drop)]
 pub(crate) struct Listing<'c, F: Field> {
     pub(crate) code: &'c Code,
@@ -36,6 +38,7 @@ impl<F: Field> Listing<'_, F> {
     {
         let m = self.code.data_columns();
         let columns = self.code.columns();
+        // by index: p is the place of a symbol, in the file, in the equations and in the marks
         for p in 0..self.code.file_length() {
             if let Some(value) = self.cells[p / m * columns + p % m] {
                 equations.enter(p, value);
@@ -92,6 +95,7 @@ impl<F: Field> Listing<'_, F> {
             (entry equations.old.n equations.old.numbers.now) (entry equations.old.n equations.new.numbers.now))
             (Contradicts F.ops self.now.code.now self.now.cells.now (entry equations.old.n equations.old.numbers.now)) }
     {
+        // by index: x is divided into a node and a column
         for x in 0..self.code.nodes() * self.code.columns() {
             self.take_cell(known, x, row, equations)?;
         }

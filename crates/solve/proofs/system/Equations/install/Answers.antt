@@ -1,4 +1,4 @@
-use Rattle.std.proofs.Common.{◌≡◌, ℕ, ◌+◌, ◌*◌, ◌<◌, ◌≤◌, length, get_or, ap, subst, arith}
+use Rattle.std.proofs.Common.{◌+◌, ◌<◌, get_or, subst, arith}
 use Rattle.solve.specs.Rows.{RowIs}
 use Rattle.solve.proofs.Memory.{row_inside}
 use Rattle.solve.proofs.Steps.{scaled_below, installed}
