@@ -13,7 +13,7 @@ use Rattle.theorems.proofs.Stripes.{stripe_of, stripe_exists}
 use Rattle.solve.specs.Systems.{entry, Solution, Unless}
 use Rattle.code.specs.Held.{ForeignAt}
 use Rattle.encode.specs.Encoding.{cell_count}
-use Rattle.solve.specs.Cells.{Lists, Listed, Loaded, TookAll, Contradicts, Meets, Factors, Vector, cell_of}
+use Rattle.solve.specs.Cells.{Lists, ListsSymbols, Loaded, TookAll, Contradicts, Meets, Factors, Vector, cell_of}
 use Rattle.solve.specs.Answers.{SharedAt}
 use Rattle.solve.specs.Decisions.{NoForeign, Built, Complete, NoneMeets, FitsSolve, Lone, DifferAt, TwoFit, OnlyFront}
 use Rattle.solve.proofs.Places.{place_of, place_split, width_positive}
@@ -44,7 +44,7 @@ module _ (F : Operations) (L : Laws F) (code : Code) (held : Held) (cells : List
       (subst (λ t. ForeignAt F held t ((j * width code + c) % width code)) (sym at.1) (subst (λ t. ForeignAt F held j t) (sym at.2) foreign))
 
   -- a present cell that is listed is a symbol
-  pub listed_symbols : Listed F code cells
+  pub listed_symbols : ListsSymbols F code cells
   listed_symbols x v l present = elim (dec_lt v F.q) [ yes h ↦ h | no h ↦ absurd ((G x l).1 (v, sym (G x l).0 ∙ present, omega arith)) ]
 
   -- a file fits exactly if its symbols meet all listed cells
@@ -95,7 +95,7 @@ module _ (F : Operations) (L : Laws F) (code : Code) (held : Held) (cells : List
 
 -- all cells are taken up by the system of the data cells, or they contradict one another
 pub taken_built : {U : Type 0} (F : Operations) (L : Laws F) (code : Code) (cells : List (Option ℕ)) (n : ℕ) (loaded after : List ℕ) (known marks : List Bool)
-    (r : Result U Refusal) → n ≡ code.k * code.m → Loaded code cells (code.k * code.m) loaded known → Listed F code cells
+    (r : Result U Refusal) → n ≡ code.k * code.m → Loaded code cells (code.k * code.m) loaded known → ListsSymbols F code cells
     → Unless r (TookAll F code cells marks (cell_count code) (entry n loaded) (entry n after)) (Contradicts F code cells (entry n loaded))
     → Unless r (Complete F code cells after) (NoneMeets F code cells)
 taken_built F L code cells n loaded after known marks r e R symbols =

@@ -11,7 +11,7 @@ use Rattle.code.proofs.Places.{place_injective, place_below}
 use Rattle.theorems.proofs.Files.{place_node}
 use Rattle.solve.specs.Systems.{entry, Keeps, Solution, Pivot, Empty, Reduced}
 use Rattle.encode.specs.Encoding.{cell_count}
-use Rattle.solve.specs.Cells.{Listed, Loaded, LoadedRow, DataMet, Meets, Factors, Vector, cell_at, cell_of}
+use Rattle.solve.specs.Cells.{ListsSymbols, Loaded, LoadedRow, DataMet, Meets, Factors, Vector, cell_at, cell_of}
 use Rattle.solve.proofs.Places.{place_of, place_split, width_positive, few_symbols}
 use Rattle.solve.proofs.Elimination.{keeps_alone, keeps_zeros}
 
@@ -104,7 +104,7 @@ module _ (code : Code) (cells : List (Option ℕ)) where
 
   -- What is loaded is in reduced form, with the marked symbols known.
   module _ (F : Operations) (L : Laws F) (w : List ℕ) (known : List Bool) (R : Loaded code cells (code.k * code.m) w known)
-      (symbols : Listed F code cells) where
+      (symbols : ListsSymbols F code cells) where
     A : ℕ → ℕ → ℕ
     A = entry (code.k * code.m) w
 

@@ -24,8 +24,8 @@ Gathered F code held (Ok cells) = Lists F code held (cell_count code) cells
 Gathered F code held (Err e) = (j c : ℕ) × (e ≡ Foreign j c) × First (Inside code) (ForeignAt F held) j c
 
 -- each present cell of the list holds a symbol
-abbrev pub Listed : Operations → Code → List (Option ℕ) → Type 0
-Listed F code cells = (x v : ℕ) → x < cell_count code → slice_index_or cells x None ≡ Some v → v < F.q
+abbrev pub ListsSymbols : Operations → Code → List (Option ℕ) → Type 0
+ListsSymbols F code cells = (x v : ℕ) → x < cell_count code → slice_index_or cells x None ≡ Some v → v < F.q
 
 -- y gives for each place of a file its factors
 abbrev pub Factors : Operations → Code → (ℕ → Symbols) → Type 0

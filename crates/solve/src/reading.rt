@@ -2,7 +2,7 @@
 ghost use Rattle.std.specs.Prelude.{◌≡◌, ℕ, ◌*◌, ◌<◌, ◌≤◌, length, OnErr, slice_index};
 ghost use Rattle.code.specs.Work.{front};
 ghost use Rattle.solve.specs.Systems.{Unless};
-ghost use Rattle.solve.specs.Cells.{Listed};
+ghost use Rattle.solve.specs.Cells.{ListsSymbols};
 ghost use Rattle.solve.specs.Decisions.{Complete, NoneMeets, Built, Decided, OnlyDecided};
 
 use crate::cells::gather;
@@ -22,7 +22,7 @@ fn build<F: Field>(
     equations: &mut Equations<'_>,
 ) -> Result<(), Refusal>
     requires length { equations.old.n ≡ code.now.k * code.now.m }
-    requires symbols { Listed F.ops code.now cells.now }
+    requires symbols { ListsSymbols F.ops code.now cells.now }
     ensures size { equations.new.n ≡ equations.old.n }
     ensures memory { equations.new.numbers.ghost_name ≡ equations.old.numbers.ghost_name }
     ensures built { Unless result (Complete F.ops code.now cells.now equations.new.numbers.now)

@@ -3,7 +3,7 @@ ghost use Rattle.std.specs.Prelude.{◌≡◌, ◌*◌, ◌<◌};
 ghost use Rattle.solve.specs.Systems.{entry, Reduced, KnownRows, Unless};
 ghost use Rattle.solve.specs.Factors.{ColumnTable};
 ghost use Rattle.encode.specs.Encoding.{cell_count};
-ghost use Rattle.solve.specs.Cells.{Listed, Loaded, Took, TookAll, Contradicts, DataMet};
+ghost use Rattle.solve.specs.Cells.{ListsSymbols, Loaded, Took, TookAll, Contradicts, DataMet};
 
 use crate::factors::{TABLE, equation};
 use crate::system::Equations;
@@ -23,7 +23,7 @@ pub(crate) struct Listing<'c, F: Field> {
     pub(crate) cells: &'c [Option<u16>; MOST_CELLS],
     pub(crate) table: &'c [u16; TABLE],
     pub(crate) field: PhantomData<F>,
-    ghost symbols: { Listed F.ops code.now cells.now },
+    ghost symbols: { ListsSymbols F.ops code.now cells.now },
     ghost factors: { ColumnTable F.ops code.now table.now },
 }
 

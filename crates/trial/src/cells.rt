@@ -46,8 +46,9 @@ fn equations_of<F: Field>(
 }
 
 /// Solves for what the cells hold, cell (j, c) at j·(m + a) + c; a number above 65,535 stands for a lost
-/// cell. Refused with 7, and the first such cell, where a present cell holds no symbol of the field, and
-/// with 9 where no file fits.
+/// cell, and cells that are not there are lost. Refused with 7, and the first such cell, where a present cell
+/// holds no symbol of the field, and with 9 where an equation without factors is left whose right side is not
+/// 0. That the equations keep their solutions on the way is not stated: the programs try it.
 pub fn solve_cells<F: Field>(
     alloc: Global,
     code: &Code,

@@ -12,8 +12,8 @@ pub struct Solved {
     // for each equation the factors of the unknowns, and behind them the right side
     numbers: Vec<u16>,
     unknowns: usize,
-    // How many of the first equations were taken for an unknown each: there its factor is 1, and in all
-    // others 0. In the equations behind these all factors are 0.
+    // How many of the first equations were taken for an unknown each. The code makes its factor 1 there and
+    // 0 in all others, and leaves no factor in the equations behind these; no clause says so.
     rank: usize,
     // how many equations there are
     count: usize,
