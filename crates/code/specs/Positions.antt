@@ -13,4 +13,5 @@ behind n v s = (v + (n - s % n)) % n
 abbrev pub BehindUndoesAhead : Type 0
 BehindUndoesAhead =
     (n v s : ℕ) → 0 < n
-    → (behind n v s < n) × (ahead n (behind n v s) s ≡ v % n) × ((w : ℕ) → w < n → ahead n w s ≡ v % n → w ≡ behind n v s)
+    → (behind n v s < n) × (ahead n (behind n v s) s ≡ v % n)
+    × ((w : ℕ) → w < n → ahead n w s ≡ v % n → w ≡ behind n v s)

@@ -1,7 +1,8 @@
 -- The number of each refusal, and the cell that it names.
 use Rattle.std.specs.Prelude.{ℕ, ◌≤◌, Some, None, Option, List, ◌++◌, codes, decimal}
 use Rattle.code.specs.declared.refusal.Refusal.{Refusal}
-use Rattle.code.specs.declared.refusal.Refusal.TheVariants.{Bounds, Shape, Length, Work, Outside, Symbol, Foreign, Lost, Contradiction, Ambiguous, Allowance}
+use Rattle.code.specs.declared.refusal.Refusal.TheVariants.{Bounds, Shape, Length, Work, Outside, Symbol}
+use Rattle.code.specs.declared.refusal.Refusal.TheVariants.{Foreign, Lost, Contradiction, Ambiguous, Allowance}
 
 -- the number by which a caller knows a refusal
 abbrev pub number : Refusal → ℕ

@@ -14,14 +14,20 @@ pub use refusal::Refusal;
 /// The most nodes of a code.
 pub const MOST_NODES: usize = 64;
 
-/// The most columns of a code: eight for data and three coded ones.
-pub const MOST_COLUMNS: usize = 11;
+/// The most data columns of a code.
+pub const MOST_DATA_COLUMNS: usize = 8;
 
-/// The most cells of a stripe: 64 nodes with 11 columns.
-pub const MOST_CELLS: usize = 704;
+/// The most coded columns of a code.
+pub const MOST_CODED_COLUMNS: usize = 3;
 
-/// The most symbols of a file: 63 data nodes with 8 data columns.
-pub const MOST_SYMBOLS: usize = 504;
+/// The most columns of a code, 11.
+pub const MOST_COLUMNS: usize = MOST_DATA_COLUMNS + MOST_CODED_COLUMNS;
+
+/// The most cells of a stripe, 704.
+pub const MOST_CELLS: usize = MOST_NODES * MOST_COLUMNS;
+
+/// The most symbols of a file, 504: one node at least holds parity.
+pub const MOST_SYMBOLS: usize = (MOST_NODES - 1) * MOST_DATA_COLUMNS;
 
 impl Code {
     /// The code of these four numbers, or refusal 1 where they break the bounds.
@@ -31,7 +37,10 @@ impl Code {
         if !(2..=MOST_NODES).contains(&n) || !(1..n).contains(&k) {
             return Err(Refusal::Bounds);
         }
-        if !(1..=8).contains(&m) || !(1..=3).contains(&a) || m + a > n {
+        if !(1..=MOST_DATA_COLUMNS).contains(&m) || !(1..=MOST_CODED_COLUMNS).contains(&a) {
+            return Err(Refusal::Bounds);
+        }
+        if m + a > n {
             return Err(Refusal::Bounds);
         }
         Ok(Code { n, k, m, a })

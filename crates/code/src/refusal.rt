@@ -5,9 +5,9 @@ ghost use Rattle.code.specs.Refusals.{number, place, text};
 use std::error::Error;
 use std::fmt;
 
-/// Why a call was declined: one case for each number from 1 to 11. It is the only error type of all
-/// layers, so that `?` carries it from the innermost to the outermost. A call that is declined has
-/// changed nothing, and returns the smallest number that holds.
+/// Why a call was declined: one case for each number from 1 to 11. All calls on a stripe have this error
+/// type, from the innermost to the outermost, so that `?` carries it. A call that is declined has changed
+/// nothing, and returns the smallest number that holds.
 #[derive(Clone, Copy, Debug, PartialEq, Eq)]
 pub enum Refusal {
     /// 1: the bounds of the code record are broken

@@ -29,5 +29,6 @@ pub record KeepsRules (F : Operations) (code : Code) (x : Symbols) : Type 0 wher
 
 -- Accepted: whether the first n·(m + a) numbers of the memory keep the rules. Declined: the memory has fewer numbers.
 abbrev pub Judged : Operations → Code → List ℕ → Result Bool Refusal → Type 0
-Judged F code cells (Ok answer) = (cell_count code ≤ length cells) × Decides answer (KeepsRules F code (in_memory code cells))
+Judged F code cells (Ok answer) =
+    (cell_count code ≤ length cells) × Decides answer (KeepsRules F code (in_memory code cells))
 Judged F code cells (Err e) = (length cells < cell_count code) × (e ≡ Shape)

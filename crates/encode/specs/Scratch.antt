@@ -37,6 +37,7 @@ pub record DataColumns (F : Operations) (code : Code) (file : List ℕ) (x : Sym
 unfoldable pub cell_of : Operations → Code → Symbols → ℕ → ℕ → ℕ
 cell_of F code x v c = cond (nat_lt c code.m) (x v c) (group_sum F code x (behind code.n v (c - code.m)) (c - code.m))
 
--- the weights of the groups: number t of row i is α^(i·t), for each coded column i and data column t that a code can have
+-- the weights of the groups: number t of row i is α^(i·t), for each coded column i and data column t that a code can
+-- have
 abbrev pub GroupWeights : Operations → List (List ℕ) → Type 0
 GroupWeights F rows = (i t : ℕ) → i < 3 → t < 8 → slice_index (slice_index_or rows i []) t ≡ power F F.α (i * t)

@@ -8,11 +8,8 @@ ghost use Rattle.encode.specs.Scratch.{DataColumns, SameData, Starts, in_columns
 use crate::points::Points;
 use crate::sums::{powers, weighted_sum};
 use crate::vandermonde::solve;
-use code::{Code, MOST_NODES};
+use code::{Code, MOST_DATA_COLUMNS, MOST_NODES};
 use field::Field;
-
-/// The most data columns of a code.
-pub(crate) const MOST_DATA_COLUMNS: usize = 8;
 
 /// A column of the scratch memory: a place for each node that a code can have.
 pub(crate) type Column = [u16; MOST_NODES];
@@ -39,7 +36,7 @@ fn place_file(code: &Code, file: &[u16], columns: &mut Columns)
     requires { length file.now ≡ code.now.k * code.now.m }
     ensures { Starts code.now file.now (in_columns columns.new) }
 {
-    // By index, here and below: no proof covers a column of `iter_mut` that is handed on.
+    // By index: no proof covers a column of `iter_mut` that is handed on.
     for t in 0..code.data_columns() {
         gather(code, file, t, &mut columns[t]);
     }
@@ -59,7 +56,7 @@ fn set_target<F: Field>(code: &Code, i: usize, weights: &[u16], column: &mut Col
     column[k + i] = F::difference(0, sum);
 }
 
-// The same in each column.
+// Puts the target of that syndrome into each column.
 fn set_targets<F: Field>(code: &Code, i: usize, weights: &[u16], columns: &mut Columns)
     requires place { i < parity code.now }
     requires weights { length weights.now ≡ code.now.k }
@@ -69,6 +66,7 @@ fn set_targets<F: Field>(code: &Code, i: usize, weights: &[u16], columns: &mut C
         (sum F.ops code.now.k (λ j. F.ops.mul (slice_index weights.now j) (in_columns columns.old j t))) }
     ensures kept { (j t : ℕ) → (j ≢ code.now.k + i) → in_columns columns.new j t ≡ in_columns columns.old j t }
 {
+    // By index, for the same reason.
     for t in 0..code.data_columns() {
         set_target::<F>(code, i, weights, &mut columns[t]);
     }
@@ -114,6 +112,7 @@ fn solve_all<F: Field>(code: &Code, points: &Points<F>, columns: &mut Columns)
         → in_columns columns.new (code.now.k + v) t < F.ops.q }
     ensures kept { SameData code.now (in_columns columns.new) (in_columns columns.old) }
 {
+    // By index, for the same reason.
     for t in 0..code.data_columns() {
         solve_column(code, points, &mut columns[t]);
     }

@@ -5,15 +5,11 @@ ghost use Rattle.code.specs.Stripe.{Symbols};
 ghost use Rattle.encode.specs.Rules.{group_sum};
 ghost use Rattle.encode.specs.Scratch.{GroupWeights};
 
-use crate::columns::MOST_DATA_COLUMNS;
 use crate::points::Points;
 use crate::sums::powers;
-use code::Code;
+use code::{Code, MOST_CODED_COLUMNS, MOST_DATA_COLUMNS};
 use field::Field;
 use std::marker::PhantomData;
-
-// The most coded columns of a code.
-const MOST_CODED_COLUMNS: usize = 3;
 
 /// What the groups weigh their symbols by: number t of row i is α^(i·t), for each coded column i and data column t
 /// that a code can have.
@@ -39,8 +35,9 @@ impl<F: Field> Weights<F> {
     }
 }
 
-/// ⟨v − s⟩, for a node v and a shift s below n. `Code::behind` takes any two numbers, and remainders for that: the
-/// sums below have a shift for each term, and do without.
+/// ⟨v − s⟩, for a node v and a shift s below n. `Code::behind` takes any two numbers, and three remainders for that.
+/// The sums below have a shift for each term: with it the benchmark of the encoder counted 3.9 million instructions
+/// more, of 718 million that are mostly the elimination's.
 pub(crate) fn back(n: usize, v: usize, s: usize) -> usize
     requires node { v < n }
     requires shift { s < n }

@@ -6,8 +6,8 @@ ghost use Rattle.encode.specs.Encoding.{Declined, Encoded};
 ghost use Rattle.encode.specs.Rules.{Judged};
 
 use cells::{cell_count, write_nodes};
-use code::{Code, MOST_NODES, Refusal};
-use columns::{MOST_DATA_COLUMNS, complete};
+use code::{Code, MOST_DATA_COLUMNS, MOST_NODES, Refusal};
+use columns::complete;
 use field::Field;
 use points::Points;
 use rules::Cells;
@@ -40,8 +40,8 @@ fn due<F: Field>(code: &Code, file: &[u16], room: usize) -> Option<Refusal>
 }
 
 /// Writes the stripe of the file into the first n·(m + a) numbers of `cells`, cell (j, c) at j·(m + a) + c, and
-/// returns how many they are. The others stay as they are. Declined, all of `cells` does: with 2 if `cells` is
-/// shorter, with 3 if the file's length is not k·m, with 6 if one of its numbers is no symbol of the field.
+/// returns how many they are. The others stay as they are. It is declined with 2 if `cells` is shorter, with 3 if the
+/// file's length is not k·m, with 6 if one of its numbers is no symbol of the field; then all of `cells` stays.
 pub fn encode<F: Field>(code: &Code, file: &[u16], cells: &mut [u16]) -> Result<usize, Refusal>
     ensures { Encoded F.ops code.now file.now cells.old result cells.new }
 {

@@ -15,7 +15,8 @@ use crate::sums::{all_symbols, column_sum};
 use code::{Code, MOST_NODES, Refusal};
 use field::Field;
 
-/// A memory with room for the cells of a code: cell (j, c) is number j·(m + a) + c.
+/// A memory with room for the cells of a code: cell (j, c) is number j·(m + a) + c. That a node is one of the code's is
+/// asked for by its methods: a type for such a node would be made and opened again at each call.
 #[derive(Clone, Copy)]
 pub(crate) struct Cells<'a> {
     code: &'a Code,

@@ -7,7 +7,8 @@ use Rattle.field.specs.Bytes.{bytes, product}
 use Rattle.field.specs.Operands.{symbol_of}
 use Rattle.field.specs.ReciprocalsLemmas.{reciprocal_below, reciprocal_operand, reciprocal_zero}
 use Rattle.field.specs.BytesRing as ring
-use Rattle.field.specs.BytesTables.{exponents, exponents_rule, reciprocal_by_exponent, inverse_by_exponent, powers_differ}
+use Rattle.field.specs.BytesTables.{exponents, exponents_rule, reciprocal_by_exponent, inverse_by_exponent}
+use Rattle.field.specs.BytesTables.{powers_differ}
 
 inverts : (u : ℕ) → u < 256 → (u ≢ 0) → product u (reciprocal product 256 u) ≡ 1
 inverts u hu nonzero =

@@ -1,5 +1,6 @@
 -- The tables of the code for bytes, as lists that antt computes, and the rule of each.
-use Rattle.std.specs.Prelude.{◌≡◌, ℕ, zero, suc, ◌+◌, ◌-◌, ◌<◌, Bool, true, ◌&&◌, List, ◌∷◌, ◌==◌, nat_lt, slice_index, refl}
+use Rattle.std.specs.Prelude.{◌≡◌, ℕ, zero, suc, ◌+◌, ◌-◌, ◌<◌, Bool, true, ◌&&◌, List, ◌∷◌, ◌==◌, nat_lt}
+use Rattle.std.specs.Prelude.{slice_index, refl}
 use Rattle.std.proofs.Common.{sym, ap, ap₂, ◌∙◌, subst, le_of_suc-le-suc, not-suc-le-zero, one-add, arith, lit<}
 use Rattle.std.proofs.lemmas.Bool.{and_parts, eqb-true, ltb-true}
 use Rattle.field.specs.Laws.{power, symbol}
@@ -8,7 +9,8 @@ use Rattle.field.specs.Reciprocals.{reciprocal}
 use Rattle.field.specs.Bytes.{bytes, product}
 use Rattle.field.specs.Operands.{symbol_below}
 use Rattle.field.specs.Powers.{power-add, power_below}
-use Rattle.field.specs.Tables.{passes, passes_at, own_place, multiples, place, places, values_from, powers_at, powers_apart}
+use Rattle.field.specs.Tables.{passes, passes_at, own_place, multiples, place, places, values_from, powers_at}
+use Rattle.field.specs.Tables.{powers_apart}
 use Rattle.field.specs.ReciprocalsLemmas.{reciprocal_is, reciprocal_operand}
 use Rattle.field.specs.BytesRing.{multiplies, product_operands}
 

@@ -3,7 +3,8 @@
 -- is commutative and associative.
 use Rattle.std.specs.Prelude.{◌≡◌, ℕ, zero, suc, ◌+◌, ◌*◌, ◌/◌, ◌%◌, ◌^◌, ◌<◌, ◌≤◌, bit_xor}
 use Rattle.std.proofs.Math.Path.{refl, sym, ap, ap₂, subst}
-use Rattle.std.proofs.Common.{◌∙◌, one-mul, mul-one, mul_assoc, add-mul, add-zero, zero-lt-suc, mod-eq_of_lt, div-add-mod', div-lt_iff_lt-mul}
+use Rattle.std.proofs.Common.{◌∙◌, one-mul, mul-one, mul_assoc, add-mul, add-zero, zero-lt-suc, mod-eq_of_lt}
+use Rattle.std.proofs.Common.{div-add-mod', div-lt_iff_lt-mul}
 use Rattle.std.proofs.Math.Nat.{zero-mul, mul_comm, pow-suc, mod-lt, div-eq_of_lt}
 use native.Mathlib.Omega.{arith}
 use Rattle.std.proofs.Math.Arith.{lt-one}

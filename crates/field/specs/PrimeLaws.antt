@@ -1,6 +1,8 @@
 -- The laws of the numbers modulo 257, and the rule of the table of inverses.
-use Rattle.std.specs.Prelude.{◌≡◌, ℕ, zero, suc, ◌+◌, ◌-◌, ◌*◌, ◌%◌, ◌<◌, Bool, true, List, ◌==◌, ◌≢◌, slice_index, refl}
-use Rattle.std.proofs.Common.{sym, ap, ap₂, ◌∙◌, mod-lt, mod-eq_of_lt, add_comm, add-zero, zero-mul, mul-one, mul_comm, le_of_suc-le-suc, arith, lit<, lit≤}
+use Rattle.std.specs.Prelude.{◌≡◌, ℕ, zero, suc, ◌+◌, ◌-◌, ◌*◌, ◌%◌, ◌<◌, Bool, true, List, ◌==◌, ◌≢◌}
+use Rattle.std.specs.Prelude.{slice_index, refl}
+use Rattle.std.proofs.Common.{sym, ap, ap₂, ◌∙◌, mod-lt, mod-eq_of_lt, add_comm, add-zero, zero-mul, mul-one}
+use Rattle.std.proofs.Common.{mul_comm, le_of_suc-le-suc, arith, lit<, lit≤}
 use Rattle.std.proofs.lemmas.Bool.{eqb-true}
 use Rattle.field.specs.Laws.{Laws, symbol}
 use Rattle.field.specs.Reciprocals.{reciprocal}

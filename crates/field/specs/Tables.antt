@@ -1,7 +1,8 @@
 -- A test that antt computes at every number below a bound, and lists that antt computes for the code's tables.
 use Rattle.std.specs.Prelude.{◌≡◌, ℕ, zero, suc, ◌+◌, ◌<◌, Bool, true, cond, ◌&&◌, List, [], ◌∷◌, ◌==◌, slice_index}
 use Rattle.std.proofs.Math.Path.{sym, ap}
-use Rattle.std.proofs.Common.{◌∙◌, subst, inl, inr, le_of_suc-le-suc, not-suc-le-zero, zero-add, add-zero, suc-add, add-suc, arith}
+use Rattle.std.proofs.Common.{◌∙◌, subst, inl, inr, le_of_suc-le-suc, not-suc-le-zero, zero-add, add-zero}
+use Rattle.std.proofs.Common.{suc-add, add-suc, arith}
 use Rattle.std.proofs.lemmas.Bool.{and_parts, cases_eq, eqb-true}
 use Rattle.field.specs.Laws.{Operations, power}
 

@@ -53,6 +53,7 @@ const LOGARITHMS: [u8; 256] = [
 ];
 
 /// The field of 256 symbols.
+#[derive(Clone, Copy, Debug, PartialEq, Eq)]
 pub struct Bytes;
 
 // 2 to the power e.
@@ -70,6 +71,7 @@ fn logarithm(u: u16) -> usize
     ensures below { result < 255 }
     ensures right { power bytes 2 result ≡ u }
 {
+    // `as` and no `usize::from`: of the table's entry at a plain number the proof computes.
     LOGARITHMS[u as usize] as usize
 }
 

@@ -23,6 +23,7 @@ const INVERSES: [u16; 257] = [
 ];
 
 /// The field of 257 symbols.
+#[derive(Clone, Copy, Debug, PartialEq, Eq)]
 pub struct Prime;
 
 impl Field for Prime {
@@ -52,6 +53,7 @@ impl Field for Prime {
 
     fn product(u: u16, v: u16) -> u16 {
         let whole = u32::from(operand(257, u)) * u32::from(operand(257, v));
+        // a remainder below 257 is a u16
         (whole % 257) as u16
     }
 

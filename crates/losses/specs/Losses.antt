@@ -34,6 +34,7 @@ AnyNodesLostSharper =
 abbrev pub NoMoreNodes : Type 0
 NoMoreNodes =
     (F : Operations) → Laws F → (code : Code) → code.a < code.k
-    → (nodes : List ℕ) × (length nodes ≡ parity code + code.a + 1) × Distinct nodes × ((w : ℕ) → Listed w nodes → w < code.n)
+    → (nodes : List ℕ) × (length nodes ≡ parity code + code.a + 1)
+    × Distinct nodes × ((w : ℕ) → Listed w nodes → w < code.n)
     × ((u : List ℕ) (x : Symbols) → IsFile F code u → StripeOf F code u x
     → (v : List ℕ) × (y : Symbols) × IsFile F code v × StripeOf F code v y × (u ≢ v) × SameOutside code nodes x y)

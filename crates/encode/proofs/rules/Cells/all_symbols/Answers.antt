@@ -1,11 +1,8 @@
-use Rattle.std.proofs.Common.{◌≡◌, ◌≤◌, Bool, true, false, length, refl, arith}
+use Rattle.std.proofs.Common.{◌≡◌, ◌≤◌, length, arith}
+use Rattle.std.proofs.lemmas.Bool.{true_from_ne_false}
 use Rattle.encode.specs.Encoding.{cell_count}
 use Rattle.encode.proofs.Memory.{cells_below, numbers_below}
 use Rattle.encode.proofs.rules.Cells.all_symbols.Goals as goal
-
-not_false : (b : Bool) → (b ≡ false → ⊥) → b ≡ true
-not_false true h = refl
-not_false false h = absurd (h refl)
 
 pub returns : goal.returns
 returns g c =
@@ -16,7 +13,7 @@ returns g c =
     let count : c.cell_count.result ≡ cell_count c.args.self.now.code.now = c.cell_count.ensures in
     let room : c.cell_count.result ≤ length c.args.self.now.numbers.now = omega (arith, count, c.args.self.now.room) in (
       λ e. cells_below F.q code numbers K count room (c.all_symbols.ensures.yes e),
-      λ all. not_false c.all_symbols.result
+      λ all. true_from_ne_false c.all_symbols.result
           (λ e.
           let found = c.all_symbols.ensures.not e in
           let low = numbers_below F.q code numbers K count room all found.0 found.1 in
