@@ -1,5 +1,6 @@
 -- A store over commands in bytes.
-use Rattle.std.specs.Prelude.{◌≡◌, ℕ, ◌+◌, ◌-◌, ◌≤◌, Bool, true, false, List, ◌++◌, length, take, drop, Option, Some, None}
+use Rattle.std.specs.Prelude.{◌≡◌, ℕ, ◌+◌, ◌-◌, ◌≤◌, Bool, true, false, List, ◌++◌, length, take, drop}
+use Rattle.std.specs.Prelude.{Option, Some, None}
 use Rattle.store.specs.Meaning.{Meaning}
 use Rattle.store.specs.Sizes.{counted_columns, counted_nodes}
 use Rattle.commands.specs.declared.command.Command.{Command}

@@ -1,5 +1,6 @@
 -- A command put behind the used part of a card: what the proofs in Shown stand on.
-use Rattle.std.proofs.Common.{◌≡◌, ℕ, cond, Some, ◌+◌, ◌-◌, ◌<◌, ◌≤◌, true, List, [], ◌∷◌, ◌++◌, length, take, drop, sym, refl, ap, ◌∙◌, append_assoc, arith, length-append}
+use Rattle.std.proofs.Common.{◌≡◌, ℕ, cond, Some, ◌+◌, ◌-◌, ◌<◌, ◌≤◌, true, List, [], ◌∷◌, ◌++◌, length, take}
+use Rattle.std.proofs.Common.{drop, sym, refl, ap, ◌∙◌, append_assoc, arith, length-append}
 use mathlib.Core.Path.{fun_ext}
 use Rattle.std.proofs.lemmas.Grind.{common_steps}
 use Rattle.std.proofs.lemmas.List.{take_at, drop_at, length-take-le, length-drop, flat_map_more}
@@ -8,7 +9,8 @@ use Rattle.store.specs.Meaning.{Changed, allowed, put}
 use Rattle.commands.specs.declared.command.Command.{Command}
 use Rattle.commands.specs.declared.command.Command.TheVariants.{Write, Lose}
 use Rattle.card.specs.declared.lent.Card.{Card}
-use Rattle.commands.specs.Commands.{bytes_of, all_bytes, commands_in, node_of, column_of, value_of, Inside, all_inside, is_inside, card, cells, is_on, latest}
+use Rattle.commands.specs.Commands.{bytes_of, all_bytes, commands_in, node_of, column_of, value_of, Inside}
+use Rattle.commands.specs.Commands.{all_inside, is_inside, card, cells, is_on, latest}
 use Rattle.card.specs.Cards.{lent_bytes, meaning_of}
 use Rattle.commands.proofs.Tests.{inside_test}
 use Rattle.commands.proofs.Reading.{reads_back}

@@ -1,5 +1,6 @@
 -- Every card keeps the laws of a meaning, an edit changes one cell, and later states are a frame.
-use Rattle.std.specs.Prelude.{◌≡◌, ℕ, ◌+◌, ◌-◌, ◌<◌, ◌≤◌, Bool, true, false, cond, ◌&&◌, List, [], ◌∷◌, take, drop, Some, None, Option, nat_lt, refl}
+use Rattle.std.specs.Prelude.{◌≡◌, ℕ, ◌+◌, ◌-◌, ◌<◌, ◌≤◌, Bool, true, false, cond, ◌&&◌, List, [], ◌∷◌, take}
+use Rattle.std.specs.Prelude.{drop, Some, None, Option, nat_lt, refl}
 use Rattle.std.proofs.Common.{subst, sym, ap, ◌∙◌, arith}
 use Rattle.std.proofs.lemmas.List.{take-take, drop-drop}
 use Rattle.std.proofs.lemmas.Bool.Decides.{nat_tests}
@@ -7,7 +8,8 @@ use Rattle.store.specs.Meaning.{Lawful, Changed, Edits, Frames, Framed, allowed}
 use Rattle.commands.specs.declared.command.Command.{Command}
 use Rattle.card.specs.declared.lent.Card.{Card}
 use Rattle.commands.specs.declared.command.Command.TheVariants.{Write, Lose}
-use Rattle.commands.specs.Commands.{value_of, node_of, column_of, TwoBytes, is_inside, all_inside, is_on, later, latest, left_by, cells}
+use Rattle.commands.specs.Commands.{value_of, node_of, column_of, TwoBytes, is_inside, all_inside, is_on}
+use Rattle.commands.specs.Commands.{later, latest, left_by, cells}
 use Rattle.card.specs.Cards.{meaning_of, lent_bytes, commands_of, command_of, PutCommand, Edited, Later}
 use Rattle.card.specs.Grows.{allowed_parts, changed_grown, kept_grown, untouched_grown}
 

@@ -4,6 +4,8 @@ ghost use Rattle.commands.specs.Commands.{all_bytes, all_inside, commands_in};
 
 use store::Shape;
 
+// No Debug: it would print all bytes that are lent.
+
 /// A store over bytes that its owner lends. The first `used` of them are whole commands on cells inside,
 /// and the rest is free.
 #[derive(Drop)]

@@ -32,6 +32,7 @@ fn good_length(nodes: usize, columns: usize, bytes: &[u8]) -> usize
     ensures { Longest (counted_nodes nodes columns) (counted_columns columns) bytes.now result
         (commands_in (take result bytes.now)) }
 {
+    // a match: `map_or_else` is no plainer, with the fault's closure before the count's
     match check_card(nodes, columns, bytes) {
         Ok(_) => bytes.len(),
         Err(fault) => fault.place(),

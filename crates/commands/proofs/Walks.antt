@@ -63,11 +63,6 @@ faulty_stuck nodes columns at bytes (Outside p) h x rest i e =
     let same = command_same n.command x n.rest rest (sym n.begins ∙ e) in
     n.outside (rw same.0 (i.0, i.1))
 
--- no command begins no bytes
-pub empty_stuck : (nodes columns : ℕ) (bytes : List ℕ) → length bytes ≡ 0 → Stuck nodes columns bytes
-empty_stuck nodes columns bytes n (Write j c s) rest i e = let w = front_write j c s bytes rest e in omega arith
-empty_stuck nodes columns bytes n (Lose j c) rest i e = let w = front_lose j c bytes rest e in omega arith
-
 -- a walk that stops at a fault has the fault's place behind it
 pub checked_fault : (nodes columns at : ℕ) (bytes : List ℕ) (count : ℕ) (rest : List ℕ) (f : CardFault)
     → Walked nodes columns bytes count rest → 0 < length rest → at ≡ length bytes - length rest → Faulty nodes columns at rest f

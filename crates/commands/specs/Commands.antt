@@ -1,5 +1,6 @@
 -- The commands of a card as bytes, and what a list of commands means for a cell.
-use Rattle.std.specs.Prelude.{◌≡◌, ℕ, ◌+◌, ◌-◌, ◌*◌, ◌/◌, ◌%◌, ◌<◌, ◌≤◌, Bool, true, cond, ◌&&◌, List, [], ◌∷◌, ◌++◌, length, take, Some, None, Option, ◌==◌, nat_lt}
+use Rattle.std.specs.Prelude.{◌≡◌, ℕ, ◌+◌, ◌-◌, ◌*◌, ◌/◌, ◌%◌, ◌<◌, ◌≤◌, Bool, true, cond, ◌&&◌, List, []}
+use Rattle.std.specs.Prelude.{◌∷◌, ◌++◌, length, take, Some, None, Option, ◌==◌, nat_lt}
 use Rattle.std.specs.List.{flat_map, AllByRecursion}
 use Rattle.store.specs.Meaning.{Meaning, Cells}
 use Rattle.commands.specs.declared.command.Command.{Command}
@@ -12,7 +13,8 @@ letter_w = 87
 abbrev pub letter_l : ℕ
 letter_l = 76
 
--- The bytes of a command: W, the node, the column, the high byte of the symbol and the low one; or L, the node, the column.
+-- The bytes of a command: W, the node, the column, the high byte of the symbol and the low one; or L, the node
+-- and the column.
 abbrev pub bytes_of : Command → List ℕ
 bytes_of (Write node column symbol) = letter_w ∷ node ∷ column ∷ symbol / 256 ∷ symbol % 256 ∷ []
 bytes_of (Lose node column) = letter_l ∷ node ∷ column ∷ []

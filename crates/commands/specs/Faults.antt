@@ -1,10 +1,12 @@
 -- The faults of a card: their numbers and places, and what each one says of the bytes.
-use Rattle.std.specs.Prelude.{◌≡◌, ℕ, ◌<◌, ◌⊎◌, List, ◌++◌, length, Ok, Err, Result, MatchResult, ◌≢◌, slice_index, codes, decimal}
+use Rattle.std.specs.Prelude.{◌≡◌, ℕ, ◌<◌, ◌⊎◌, List, ◌++◌, length, Ok, Err, Result, MatchResult, ◌≢◌}
+use Rattle.std.specs.Prelude.{slice_index, codes, decimal}
 use Rattle.store.specs.Meaning.{Meaning}
 use Rattle.commands.specs.declared.command.Command.{Command}
 use Rattle.commands.specs.declared.command.CardFault.{CardFault}
 use Rattle.commands.specs.declared.command.CardFault.TheVariants.{Letter, Short, Outside}
-use Rattle.commands.specs.Commands.{letter_w, letter_l, bytes_of, all_bytes, node_of, column_of, Inside, Longest, TakenUp}
+use Rattle.commands.specs.Commands.{letter_w, letter_l, bytes_of, all_bytes, node_of, column_of, Inside}
+use Rattle.commands.specs.Commands.{Longest, TakenUp}
 
 -- the number by which a caller knows a fault
 abbrev pub number : CardFault → ℕ
@@ -30,7 +32,8 @@ NoLetter bytes = (0 < length bytes) × (slice_index bytes 0 ≢ letter_w) × (sl
 abbrev pub CutShort : List ℕ → Type 0
 CutShort bytes =
     (length bytes ≡ 0)
-    ⊎ (((slice_index bytes 0 ≡ letter_w) × (length bytes < 5)) ⊎ ((slice_index bytes 0 ≡ letter_l) × (length bytes < 3)))
+    ⊎ (((slice_index bytes 0 ≡ letter_w) × (length bytes < 5))
+    ⊎ ((slice_index bytes 0 ≡ letter_l) × (length bytes < 3)))
 
 -- the bytes begin with a whole command, but its cell is outside
 pub record NoCell (nodes columns : ℕ) (bytes : List ℕ) : Type 0 where

@@ -3,7 +3,8 @@
 
 ghost use Rattle.std.specs.Prelude.{◌≡◌, ◌++◌, [], true, Some, if◌then◌else◌, MatchResult, MatchOption};
 ghost use Rattle.store.specs.Sizes.{counted_columns, counted_nodes};
-ghost use Rattle.commands.specs.Commands.{node_of, column_of, value_of, is_on, bytes_of, commands_in, TwoBytes, ReadsBack, OneReading};
+ghost use Rattle.commands.specs.Commands.{node_of, column_of, value_of, is_on, bytes_of, commands_in};
+ghost use Rattle.commands.specs.Commands.{TwoBytes, ReadsBack, OneReading};
 ghost use Rattle.commands.specs.Walk.{commands_left, CutOff};
 ghost use Rattle.commands.specs.Faults.{number, place, text, Begins, Faulty, Checked, Agrees};
 
@@ -87,6 +88,8 @@ impl Command {
         }
     }
 }
+
+// The function is public, so it keeps its answer; the theorems are the clauses.
 
 /// Commands written as bytes and read back are the same commands, and bytes can be read in one way only.
 /// It holds of all lists of commands, so a card needs no marks between them. The answer is always `true`.

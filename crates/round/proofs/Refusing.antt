@@ -1,26 +1,19 @@
 -- Which refusals a rebuilding has, and what it writes.
 use Rattle.std.proofs.lemmas.Grind.{common_steps}
-use Rattle.std.proofs.Common.{◌≡◌, ℕ, ◌*◌, ◌<◌, ◌≤◌, List, length, get_or, take, Err, Result, ◌∙◌, arith}
+use Rattle.std.proofs.Common.{◌≡◌, ℕ, ◌*◌, ◌<◌, ◌≤◌, List, length, get_or, take, Result, ◌∙◌, arith}
 use Rattle.std.proofs.lemmas.List.FromFn.{fill_by_all}
 use Rattle.std.proofs.lemmas.List.{length-take-le, get_or-take}
 use Rattle.field.specs.Laws.{Operations}
 use Rattle.code.specs.declared.record.Code.{Code}
 use Rattle.code.specs.declared.refusal.Refusal.{Refusal}
-use Rattle.code.specs.declared.refusal.Refusal.TheVariants.{Symbol}
 use Rattle.code.specs.Stripe.{width}
 use Rattle.round.specs.Wanted.{whole}
-use Rattle.round.specs.Rebuild.{asked, mended, Refused, Rebuilds}
-use Rattle.round.specs.Fetching.{Unfit, made_in, Runs}
+use Rattle.round.specs.Rebuild.{asked, mended, Refused}
+use Rattle.round.specs.Fetching.{made_in, Runs}
 
 module _ (F : Operations) (code : Code) (f : ℕ) (cells out : List ℕ)
     (long : code.n * width code ≤ length cells) (room : width code ≤ length out) (known : f < code.n) where
-  -- with arrays long enough and a node of the code, only an unfit symbol is left
-  unfit_or_none : (e : Refusal) → Refused F code f cells out e → e ≡ Symbol
-  unfit_or_none e r = grind (arith, common_steps)
-
-  pub unfit_refused : (e : Refusal) → e ≡ Symbol → Unfit F code f cells → Rebuilds F code f cells out out (Err e)
-  unfit_refused e is u = grind (arith, common_steps)
-
+  -- with arrays long enough, a node of the code and symbols of the field there is no refusal
   pub none_refused : ((p : ℕ) → p < whole code → asked code f cells p < F.q) → (e : Refusal) → Refused F code f cells out e → ⊥
   none_refused all e r = grind (arith, common_steps)
 

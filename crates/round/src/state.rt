@@ -1,6 +1,7 @@
 // The three states of a round, each a type of its own that moves: a state that was used is gone, and
 // only the state that it became can be used next. The field belongs to the type, so that one
-// field serves a whole round. No state is Clone: a copy could be used twice.
+// field serves a whole round. No state is Clone: a copy could be used twice. None is Debug, nor what holds one:
+// a derived one asks Debug of the field, a type that stands for operations and has no values to print.
 //
 // Each state has the code, the node and the field as its own: one struct that holds the three would save
 // two lines a state, and every clause that speaks of a round's code would name that struct as well.

@@ -57,6 +57,7 @@ fn run<F: Field>(
     requires begun { Wants F.ops round.code round.node [] round }
     ensures { Runs F.ops round.code round.node cells.now result }
 {
+    // room for the most columns, of which the code's are used: nothing here allocates
     let mut symbols = [0; MOST_COLUMNS];
     loop {
         let holding = fill_column(round, cells)?;

@@ -1,5 +1,6 @@
 -- A store over a row of numbers.
-use Rattle.std.specs.Prelude.{◌≡◌, ℕ, ◌+◌, ◌*◌, ◌<◌, ◌≤◌, Bool, true, false, cond, ◌&&◌, ◌⊎◌, List, length, Some, None, Option, nat_le, nat_lt, slice_index, slice_set}
+use Rattle.std.specs.Prelude.{◌≡◌, ℕ, ◌+◌, ◌*◌, ◌<◌, ◌≤◌, Bool, true, false, cond, ◌&&◌, ◌⊎◌, List, length}
+use Rattle.std.specs.Prelude.{Some, None, Option, nat_le, nat_lt, slice_index, slice_set}
 use Rattle.store.specs.Meaning.{Meaning}
 use Rattle.store.specs.declared.lent.Grid.{Grid}
 

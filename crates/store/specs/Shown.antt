@@ -1,5 +1,7 @@
 -- Every grid keeps the laws of a meaning, an edit changes one cell, and later states are a frame.
-use Rattle.std.proofs.Common.{◌≡◌, ℕ, ◌+◌, ◌*◌, ◌<◌, ◌≤◌, Bool, cond, ◌&&◌, Some, None, Option, nat_lt, slice_index, slice_set, List, length, set, get_or, refl, sym, ap, ◌∙◌, inl, inr, arith, get_or-set_other, get_or-set_same, length-set}
+use Rattle.std.proofs.Common.{◌≡◌, ℕ, ◌+◌, ◌*◌, ◌<◌, ◌≤◌, Bool, cond, ◌&&◌, Some, None, Option, nat_lt}
+use Rattle.std.proofs.Common.{slice_index, slice_set, List, length, set, get_or, refl, sym, ap, ◌∙◌, inl, inr}
+use Rattle.std.proofs.Common.{arith, get_or-set_other, get_or-set_same, length-set}
 use mathlib.Core.Path.{fun_ext}
 use Rattle.std.proofs.lemmas.Nat.{mul-add-lt, same_from_place}
 use Rattle.std.proofs.lemmas.Bool.{cases_lt, cases_eq}

@@ -3,6 +3,8 @@ ghost use Rattle.std.specs.Prelude.{◌*◌, ◌≤◌, length};
 
 use crate::shape::Shape;
 
+// No Debug: it would print the whole row that is lent.
+
 /// A store over a row of numbers that its owner lends: cell (j, c) is the number at j · columns + c, and
 /// a number above 65,535 is a lost cell. All cells lie within the row.
 #[derive(Drop)]

@@ -14,6 +14,9 @@ mod shape;
 pub use lent::Grid;
 pub use shape::{Shape, count_columns, count_nodes};
 
+// A cell is two numbers, the node and the column, here and in the crates above: a type for the pair would stand
+// in every public signature, and the clauses would speak of its two numbers as before.
+
 /// A store of cells. The questions change nothing and tell the meaning. `edit`, `write` and `lose` say
 /// whether the change was taken: that is so exactly where there is such a cell and the allowance is not
 /// used up. A change that is not taken leaves the store itself as it is.
@@ -84,17 +87,22 @@ pub trait Store {
     /// a change keeps the frame, and so do many
     ghost frames: { Frames frame };
 
+    /// an edit keeps the frame
     ghost framed: { Framed meaning edited frame };
 }
 
-// The number that marks a lost cell of a grid. It is a number and no `None`, since the row that the owner
-// lends and reads holds numbers alone.
-const LOST: u32 = u32::MAX;
+// It is a number and no `None`, since the row that the owner lends and reads holds numbers alone.
+
+/// The number with which a loss marks a cell of a grid. Any number above 65,535 is a lost cell.
+pub const LOST: u32 = u32::MAX;
 
 // A grid's allowance, which no change spends.
 const ALLOWANCE: usize = 65535;
 
 impl<'a> Grid<'a> {
+    // `nodes` and `columns` are asked for and no Shape, here as for a card and in the check of one: any two
+    // numbers are taken, and how they are counted is part of the answer.
+
     /// A grid over memory that keeps its numbers. Nodes that do not fit whole are dropped.
     pub fn take_up(nodes: usize, columns: usize, memory: &'a mut [u32]) -> Grid<'a>
         ensures means { meaning_of result

@@ -2,7 +2,8 @@
 ghost use Rattle.std.specs.Prelude.{◌≡◌, ◌*◌, ◌≤◌, ◌&&◌, nat_lt};
 ghost use Rattle.store.specs.Sizes.{counted_columns, counted_nodes, whole_nodes};
 
-// The most nodes and the most columns that a store is made with.
+// The most nodes and the most columns that a store is made with. They are a code's too, and stand here again
+// because this crate stands on no other.
 const MOST_NODES: usize = 64;
 
 const MOST_COLUMNS: usize = 11;
@@ -10,7 +11,9 @@ const MOST_COLUMNS: usize = 11;
 /// The nodes and the columns of a store: at most 64 nodes and 11 columns, and with no columns no nodes.
 #[derive(Clone, Copy, Debug, PartialEq, Eq)]
 pub struct Shape {
+    /// how many nodes, at most 64
     pub nodes: usize,
+    /// how many columns, at most 11
     pub columns: usize,
     ghost nodes_as_counted: { nodes ≡ counted_nodes nodes columns },
     ghost columns_as_counted: { columns ≡ counted_columns columns },
@@ -53,6 +56,7 @@ impl Shape {
         ensures fits { result.nodes * result.columns ≤ room }
     {
         let Shape { nodes, columns, .. } = Shape::counted(nodes, columns);
+        // an early return, so that what is left divides by columns above 0
         if columns == 0 {
             return Shape { nodes, columns };
         }

@@ -7,7 +7,8 @@ use Rattle.commands.specs.Commands.{TakenUp}
 
 -- The card that is taken up from the bytes before has lost the cell in the commands of the bytes after. These
 -- begin with the bytes that taking up used, and behind the commands the bytes are as they were.
-pub record LostInBytes (nodes columns : ℕ) (before : List ℕ) (j c : ℕ) (taken : Bool) (after : List ℕ) : Type 0 where
+pub record LostInBytes (nodes columns : ℕ) (before : List ℕ) (j c : ℕ) (taken : Bool)
+    (after : List ℕ) : Type 0 where
   pub used : ℕ
   pub meaning : Meaning
   pub first : TakenUp nodes columns before used meaning

@@ -6,6 +6,7 @@ ghost use Rattle.stripe.specs.Survival.{BlankStores, Repair, Survival, WideCode}
 
 use code::Code;
 
+/// The seven calls as values.
 pub mod calls;
 
 /// The law over any list of calls: it holds after each call, for every field that keeps the laws, every code
