@@ -1,6 +1,6 @@
 -- What the symbols given for a column make, one symbol after the other.
 use Rattle.std.proofs.lemmas.Grind.{common_steps}
-use Rattle.std.proofs.Common.{◌≡◌, ℕ, zero, suc, ◌+◌, ◌-◌, ◌*◌, ◌<◌, ◌≤◌, List, length, sym, ap, ◌∙◌, add-one, arith}
+use Rattle.std.proofs.Common.{◌≡◌, ℕ, zero, suc, ◌+◌, ◌-◌, ◌*◌, ◌<◌, ◌≤◌, List, None, length, sym, ap, ◌∙◌, add-one, arith}
 use Rattle.std.proofs.lemmas.Bool.{lt-ltb, le-ltb}
 use Rattle.field.specs.Laws.{Operations, Laws}
 use Rattle.algebra.specs.Sums.{sum}
@@ -12,9 +12,10 @@ use Rattle.round.specs.declared.state.Wanting.{Wanting}
 
 -- a round that was given all symbols for the columns before the present one, and none for it
 pub at_start : {X : Type 0} (F : Operations) (code : Code) (f : ℕ) (symbols : List ℕ) (w : Wanting X)
-    → w.code ≡ code → w.node ≡ f → w.column * code.m ≡ length symbols → AllSymbols F symbols → w.place ≡ 0 → w.weight ≡ 1
+    → w.code ≡ code → w.node ≡ f → w.column * code.m ≡ length symbols → AllSymbols F symbols → w.place ≡ 0
+    → w.made ≡ None → w.weight ≡ 1
     → Wants F code f symbols w
-at_start F code f symbols w hc hn count all hp hw = grind (arith, common_steps, power-times-zero)
+at_start F code f symbols w hc hn count all hp hm hw = grind (arith, common_steps, power-times-zero)
 
 -- in a data column: the first minus the sum of the others
 pub made_data : (F : Operations) (code : Code) (c s : ℕ) (y : ℕ → ℕ) → c < code.m

@@ -1,6 +1,6 @@
 -- A round that is given one symbol more.
 use Rattle.std.proofs.lemmas.Grind.{common_steps}
-use Rattle.std.proofs.Common.{◌≡◌, ℕ, ◌+◌, ◌-◌, ◌*◌, ◌<◌, ◌≤◌, List, [], ◌∷◌, ◌++◌, length, sym, ap, ◌∙◌, inl, inr, arith}
+use Rattle.std.proofs.Common.{◌≡◌, ℕ, ◌+◌, ◌-◌, ◌*◌, ◌<◌, ◌≤◌, List, [], ◌∷◌, ◌++◌, Some, None, Option, length, sym, ap, ◌∙◌, inl, inr, arith}
 use Rattle.std.proofs.lemmas.Bool.{cases_lt, cases_eq}
 use Rattle.std.proofs.lemmas.List.{get_or_push, get_or_append_left, length_push}
 use Rattle.field.specs.Laws.{Operations, Laws}
@@ -16,17 +16,18 @@ use Rattle.round.proofs.Making.{made_one, data_more, coded_more, made_same}
 pub symbols_more : (F : Operations) (symbols : List ℕ) (v : ℕ) → AllSymbols F symbols → v < F.q → AllSymbols F (symbols ++ v ∷ [])
 symbols_more F symbols v all h p below = grind (arith, common_steps)
 
--- What a round with s symbols for column c makes of one more, v.
-pub record Joins (F : Operations) (code : Code) (c s so_far weight v r : ℕ) : Type 0 where
-  pub first : s ≡ 0 → r ≡ v
-  pub in_data : 0 < s → c < code.m → r ≡ F.sub so_far v
-  pub in_coded : 0 < s → code.m ≤ c → r ≡ F.add so_far (F.mul weight v)
+-- What a round makes of one symbol more for column c, v.
+pub record Joins (F : Operations) (code : Code) (c : ℕ) (so_far : Option ℕ) (weight v r : ℕ) : Type 0 where
+  pub first : so_far ≡ None → r ≡ v
+  pub in_data : (x : ℕ) → so_far ≡ Some x → c < code.m → r ≡ F.sub x v
+  pub in_coded : (x : ℕ) → so_far ≡ Some x → code.m ≤ c → r ≡ F.add x (F.mul weight v)
 
-module _ (F : Operations) (L : Laws F) (code : Code) (symbols : List ℕ) (c s so_far weight v r : ℕ)
+module _ (F : Operations) (L : Laws F) (code : Code) (symbols : List ℕ) (c s : ℕ) (so_far : Option ℕ) (weight v r : ℕ)
     (count : c * code.m + s ≡ length symbols) (all : AllSymbols F symbols) (below : v < F.q)
-    (is_made : 0 < s → so_far ≡ made F code c s (of_column code symbols c))
+    (none_yet : s ≡ 0 → so_far ≡ None)
+    (is_made : 0 < s → so_far ≡ Some (made F code c s (of_column code symbols c)))
     (factor : weight ≡ α_power F ((c - code.m) * s))
-    (joins : Joins F code c s so_far weight v r) where
+    (joins : Joins F code c so_far weight v r) where
   before : ℕ → ℕ
   before = of_column code symbols c
 
@@ -45,9 +46,9 @@ module _ (F : Operations) (L : Laws F) (code : Code) (symbols : List ℕ) (c s s
   unfolding after
   symbol_at u h = symbols_more F symbols v all below (c * code.m + u) (rw length_push (omega arith))
 
-  same : 0 < s → so_far ≡ made F code c s after
+  same : 0 < s → so_far ≡ Some (made F code c s after)
   unfolding before
-  same pos = is_made pos ∙ made_same F code c s before after pos kept
+  same pos = is_made pos ∙ ap Some (made_same F code c s before after pos kept)
 
   pub joined_is : r ≡ made F code c (s + 1) (of_column code (symbols ++ v ∷ []) c)
   unfolding after
@@ -55,19 +56,17 @@ module _ (F : Operations) (L : Laws F) (code : Code) (symbols : List ℕ) (c s s
       elim (cases_eq s 0) [
         | inl z ↦
             let e : after 0 ≡ v = ap after (sym z) ∙ last in
-            joins.first z ∙ sym e ∙ sym (made_one F L code c after (symbol_at 0 (omega arith))) ∙ ap (λ k. made F code c (k + 1) after) (sym z)
+            joins.first (none_yet z) ∙ sym e ∙ sym (made_one F L code c after (symbol_at 0 (omega arith))) ∙ ap (λ k. made F code c (k + 1) after) (sym z)
         | inr n ↦
             let pos : 0 < s = omega arith in
             elim (cases_lt c code.m) [
               | inl l ↦
-                  let j = joins.in_data pos l in
-                  let so = same pos in
+                  let j = joins.in_data (made F code c s after) (same pos) l in
                   let e = data_more F L code c s after l pos in
                   let v_is = last in
                   cc
               | inr l ↦
-                  let j = joins.in_coded pos l in
-                  let so = same pos in
+                  let j = joins.in_coded (made F code c s after) (same pos) l in
                   let e = coded_more F code c s after l in
                   let v_is = last in
                   cc
@@ -78,7 +77,7 @@ module _ (F : Operations) (L : Laws F) (code : Code) (symbols : List ℕ) (c s s
 pub now_holds : {X : Type 0} (F : Operations) (L : Laws F) (code : Code) (f : ℕ) (symbols : List ℕ) (w : Wanting X) (v : ℕ) (h : Holding X)
     → Wants F code f symbols w → v < F.q
     → h.code ≡ w.code → h.node ≡ w.node → h.column ≡ w.column → w.place + 1 ≡ w.code.m
-    → Joins F w.code w.column w.place w.made w.weight v h.made
+    → Joins F w.code w.column w.made w.weight v h.made
     → Holds F code f (symbols ++ v ∷ []) h
 now_holds F L code f symbols w v h was below hc hn hcol full joins = grind (arith, common_steps, joined_is, length_push, symbols_more)
 
@@ -89,12 +88,13 @@ factor_more F L d s =
     sym (power-add F (multiplies F L) F.α (d * s) d L.generator_below) ∙ ap (α_power F) e
 
 -- the symbol given was not the last one for its column
-pub still_wants : {X : Type 0} (F : Operations) (L : Laws F) (code : Code) (f : ℕ) (symbols : List ℕ) (w : Wanting X) (v : ℕ) (w' : Wanting X)
+pub still_wants : {X : Type 0} (F : Operations) (L : Laws F) (code : Code) (f : ℕ) (symbols : List ℕ) (w : Wanting X) (v r : ℕ) (w' : Wanting X)
     → Wants F code f symbols w → v < F.q
     → w'.code ≡ w.code → w'.node ≡ w.node → w'.column ≡ w.column → w'.place ≡ w.place + 1
     → w'.weight ≡ F.mul w.weight (α_power F (w.column - w.code.m))
-    → Joins F w.code w.column w.place w.made w.weight v w'.made
+    → w'.made ≡ Some r
+    → Joins F w.code w.column w.made w.weight v r
     → Wants F code f (symbols ++ v ∷ []) w'
-still_wants F L code f symbols w v w' was below hc hn hcol one_more hw joins =
+still_wants F L code f symbols w v r w' was below hc hn hcol one_more hw made_is joins =
     let factor = factor_more F L (w.column - code.m) w.place in
     grind (arith, common_steps, joined_is, length_push, symbols_more)

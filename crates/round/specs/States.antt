@@ -1,6 +1,6 @@
 -- What each state of a round stands for, and what giving and taking answer.
 use Rattle.std.specs.Prelude.{◌≡◌, ℕ, ◌+◌, ◌-◌, ◌*◌, ◌<◌, ◌≤◌, List, [], ◌∷◌, ◌++◌, length}
-use Rattle.std.specs.Prelude.{Ok, Err, Result, slice_index}
+use Rattle.std.specs.Prelude.{Some, None, Ok, Err, Result, slice_index}
 use Rattle.field.specs.Laws.{Operations}
 use Rattle.code.specs.declared.record.Code.{Code}
 use Rattle.code.specs.declared.refusal.Refusal.{Refusal}
@@ -41,7 +41,8 @@ pub record Wants {X : Type 0} (F : Operations) (code : Code) (f : ℕ) (symbols 
   pub node_is : w.node ≡ f
   pub count : given_wanting w ≡ length symbols
   pub accepted : AllSymbols F symbols
-  pub so_far : 0 < w.place → w.made ≡ made F code w.column w.place (of_column code symbols w.column)
+  pub none_yet : w.place ≡ 0 → w.made ≡ None
+  pub so_far : 0 < w.place → w.made ≡ Some (made F code w.column w.place (of_column code symbols w.column))
   pub factor : w.weight ≡ α_power F ((w.column - code.m) * w.place)
 
 -- h is the round for node f of the code that was given these symbols and has finished one of its own.

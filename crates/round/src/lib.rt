@@ -1,7 +1,7 @@
 // Rebuilding the cells of one node from cells of other nodes, symbol by symbol.
 #![tactic(auto)]
 
-ghost use Rattle.std.specs.Prelude.{◌≡◌, ◌<◌, ◌≤◌};
+ghost use Rattle.std.specs.Prelude.{◌≡◌, ℕ, ◌<◌, ◌≤◌, Some, None};
 ghost use Rattle.round.specs.Wanted.{wanted};
 ghost use Rattle.round.specs.Round.{nodes_asked, EveryRound};
 ghost use Rattle.round.specs.States.{given_wanting, given_holding, given_over, Begun, Gives, Takes};
@@ -29,7 +29,7 @@ impl<F: Field> Wanting<F> {
             node,
             column: 0,
             place: 0,
-            made: 0,
+            made: None,
             weight: 1,
             field: PhantomData,
         })
@@ -73,14 +73,13 @@ impl<F: Field> Wanting<F> {
                 round: self,
             });
         }
-        self.made = self.joined(symbol);
+        let made = self.joined(symbol);
         let m = self.code.data_columns();
         if self.place + 1 == m {
             let Wanting {
                 code,
                 node,
                 column,
-                made,
                 field,
                 ..
             } = self;
@@ -93,6 +92,7 @@ impl<F: Field> Wanting<F> {
             }));
         }
         let step = power::<F>(F::GENERATOR, self.column.saturating_sub(m));
+        self.made = Some(made);
         self.weight = F::product(self.weight, step);
         self.place += 1;
         Ok(Given::Wanting(self))
@@ -100,20 +100,20 @@ impl<F: Field> Wanting<F> {
 
     // What the symbols given for the present column make together with one more.
     fn joined(&self, symbol: u16) -> u16
-        ensures first { self.now.place ≡ 0 → result ≡ symbol }
-        ensures data { 0 < self.now.place
+        ensures first { self.now.made ≡ None → result ≡ symbol }
+        ensures data { (made : ℕ)
+            → self.now.made ≡ Some made
             → self.now.column < self.now.code.m
-            → result ≡ F.ops.sub self.now.made symbol }
-        ensures coded { 0 < self.now.place
+            → result ≡ F.ops.sub made symbol }
+        ensures coded { (made : ℕ)
+            → self.now.made ≡ Some made
             → self.now.code.m ≤ self.now.column
-            → result ≡ F.ops.add self.now.made (F.ops.mul self.now.weight symbol) }
+            → result ≡ F.ops.add made (F.ops.mul self.now.weight symbol) }
     {
-        if self.place == 0 {
-            symbol
-        } else if self.column < self.code.data_columns() {
-            F::difference(self.made, symbol)
-        } else {
-            F::sum(self.made, F::product(self.weight, symbol))
+        match self.made {
+            None => symbol,
+            Some(made) if self.column < self.code.data_columns() => F::difference(made, symbol),
+            Some(made) => F::sum(made, F::product(self.weight, symbol)),
         }
     }
 }
@@ -162,7 +162,7 @@ impl<F: Field> Holding<F> {
                 node,
                 column,
                 place: 0,
-                made: 0,
+                made: None,
                 weight: 1,
                 field,
             }),

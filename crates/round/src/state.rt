@@ -20,8 +20,8 @@ pub struct Wanting<F> {
     pub(crate) column: usize,
     // how many symbols were given for this column
     pub(crate) place: usize,
-    // the symbol that these make so far; any number where there are none yet
-    pub(crate) made: u16,
+    // the symbol that these make so far; `None` before the first
+    pub(crate) made: Option<u16>,
     // the factor of the next symbol in a coded column
     pub(crate) weight: u16,
     pub(crate) field: PhantomData<F>,

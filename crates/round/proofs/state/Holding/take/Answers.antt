@@ -16,5 +16,5 @@ returns g c =
       given_same = λ code f symbols was.
           let m : h.code.m ≡ code.m = ap (λ (x : Code). x.m) was.code_is in
           let count : (h.column + 1) * code.m ≡ length symbols = rw (← m) was.count in
-          at_start _ code f symbols _ was.code_is was.node_is count was.accepted refl refl;
+          at_start _ code f symbols _ was.code_is was.node_is count was.accepted refl refl refl;
     }

@@ -8,7 +8,7 @@ pub returns-then-self-m : goal.returns-then-self-m
 returns-then-self-m g c =
     let w = c.args.self in
     let F = g.F.Field.ops in
-    let j = c.joined.ensures in
+    let j = c.joined-made.ensures in
     let one_more : w.place + 1 ≡ w.code.m = omega arith in
     let below : c.args.symbol < F.q = omega (arith, g.met.F.Field.size) in
     record {
@@ -27,7 +27,7 @@ pub returns : goal.returns
 returns g c =
     let w = c.args.self in
     let F = g.F.Field.ops in
-    let j = c.joined.ensures in
+    let j = c.joined-made.ensures in
     let below : c.args.symbol < F.q = omega (arith, g.met.F.Field.size) in
     let generator : c.GENERATOR.result ≡ F.α = c.GENERATOR.ensures ∙ g.met.F.Field.generator in
     let by : c.saturating_sub.result ≡ w.column - w.code.m = omega arith in
@@ -39,8 +39,9 @@ returns g c =
       column_kept = refl;
       counted = omega arith;
       given_too = λ code f symbols h.
-          still_wants F g.met.F.Field.laws code f symbols w c.args.symbol _ h below refl refl refl refl
+          still_wants F g.met.F.Field.laws code f symbols w c.args.symbol _ _ h below refl refl refl refl
           (c.product.ensures
           ∙ ap (F.mul w.weight) (c.power-step.ensures ∙ ap (λ u. power F u c.saturating_sub.result) generator ∙ ap (α_power F) by))
+          refl
           (record { first = j.first; in_data = j.«data»; in_coded = j.coded });
     }
