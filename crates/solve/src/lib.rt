@@ -3,8 +3,9 @@
 // present ones need not come from a stripe. Nothing here allocates: the caller lends the work memory.
 #![tactic(auto)]
 
-ghost use Rattle.std.specs.Prelude.{length};
-ghost use Rattle.code.specs.Work.{WorkAfter};
+ghost use Rattle.std.specs.Prelude.{◌≡◌, ◌<◌, ◌≤◌, length, IfOk, IfErr};
+ghost use Rattle.code.specs.declared.refusal.Refusal.TheVariants.{Work};
+ghost use Rattle.code.specs.Work.{front, WorkAfter};
 ghost use Rattle.solve.specs.Answers.{SharedSymbol, OnlyFile};
 
 mod cells;
@@ -21,6 +22,19 @@ use field::Field;
 use reading::{decide, find_only};
 use store::Store;
 
+// How many numbers the front of the work memory has, if the memory has as many.
+fn front_size(code: &Code, work: &[u32]) -> Result<usize, Refusal>
+    ensures size { IfOk result (λ size. (size ≡ front code.now) × (size ≤ length work.now)) }
+    ensures work { IfErr result (λ e. (e ≡ Work) × (length work.now < front code.now)) }
+{
+    let n = code.file_length();
+    let size = n * (n + 1);
+    if work.len() < size {
+        return Err(Refusal::Work);
+    }
+    Ok(size)
+}
+
 /// The symbol that all fitting files share at the place (row, column). Declined with 4 if the work memory is below
 /// k·m·(k·m + 1) numbers, with 5 if the place is outside, with 7 for the first present cell that is no symbol, with
 /// 9 if no file fits, and with 10 if two fitting files differ there. The front of the work memory holds zeros
@@ -35,11 +49,7 @@ pub fn shared_symbol<F: Field, S: Store>(
     ensures answer { SharedSymbol F.ops code.now (S.meaning store.now).cell row column (length work.old) result }
     ensures work { WorkAfter code.now work.old result work.new }
 {
-    let n = code.file_length();
-    let size = n * (n + 1);
-    if work.len() < size {
-        return Err(Refusal::Work);
-    }
+    let size = front_size(code, work)?;
     if row >= code.data_nodes() || column >= code.data_columns() {
         return Err(Refusal::Outside);
     }
@@ -57,10 +67,6 @@ pub fn only_file<F: Field, S: Store>(
 ) -> Result<usize, Refusal>
     ensures { OnlyFile F.ops code.now (S.meaning store.now).cell work.old result work.new }
 {
-    let n = code.file_length();
-    let size = n * (n + 1);
-    if work.len() < size {
-        return Err(Refusal::Work);
-    }
+    let size = front_size(code, work)?;
     find_only::<F, S>(code, store, &mut work[..size])
 }

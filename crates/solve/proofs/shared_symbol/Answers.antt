@@ -1,5 +1,4 @@
-use Rattle.std.proofs.Common.{◌≡◌, ◌+◌, ◌*◌, length, ap, subst, arith, rules}
-use Rattle.code.specs.Work.{front}
+use Rattle.std.proofs.Common.{◌+◌, ◌*◌, length, subst, arith, rules}
 use Rattle.solve.specs.Decisions.{Decided}
 use Rattle.solve.proofs.Answering.{shared_answer, decided_cleared, front_zeros}
 use Rattle.solve.proofs.shared_symbol.Goals as goal
@@ -8,16 +7,15 @@ pub returns-clause-answer : goal.returns-clause-answer
 returns-clause-answer g c =
     let code = c.args.code.now in
     let held = (g.S.Store.meaning c.args.store.now).cell in
-    let size : c.file_length-n.result * (c.file_length-n.result + 1) ≡ front c.args.code.now = ap (λ t. t * (t + 1)) c.file_length-n.ensures in
-    shared_answer g.F.Field.ops code held c.args.row c.args.column (length c.args.work.now) (omega arith) (omega arith, omega arith) c.decide.result
+    let size = c.in_ok-size.ensures.size in
+    shared_answer g.F.Field.ops code held c.args.row c.args.column (length c.args.work.now) (omega (arith, size.0, size.1)) (omega arith, omega arith) c.decide.result
     (subst (λ t. Decided g.F.Field.ops code held (c.args.row * t + c.args.column) c.decide.result) c.data_columns-2.ensures c.decide.ensures.decided)
 
 pub returns-clause-work : goal.returns-clause-work
 returns-clause-work g c =
     let code = c.args.code.now in
     let held = (g.S.Store.meaning c.args.store.now).cell in
-    let n = c.file_length-n.result in
-    let size : c.file_length-n.result * (c.file_length-n.result + 1) ≡ front c.args.code.now = ap (λ t. t * (t + 1)) c.file_length-n.ensures in
+    let size = c.in_ok-size.ensures.size in
     decided_cleared g.F.Field.ops code held (c.args.row * c.args.code.now.m + c.args.column) c.args.work.now _
-    (front_zeros code (n * (n + 1)) c.args.work.now _ size (omega arith) (search rules) c.decide.ensures.zeros) c.decide.result
+    (front_zeros code c.in_ok-size.size c.args.work.now _ size.0 size.1 (search rules) c.decide.ensures.zeros) c.decide.result
     (subst (λ t. Decided g.F.Field.ops code held (c.args.row * t + c.args.column) c.decide.result) c.data_columns-2.ensures c.decide.ensures.decided)
