@@ -16,7 +16,8 @@ use Rattle.encode.specs.Encoding.{cell_count}
 use Rattle.solve.specs.Cells.{Lists, ListsSymbols, Loaded, TookAll, Contradicts, Meets, Factors, Vector, cell_of}
 use Rattle.solve.specs.Answers.{SharedAt}
 use Rattle.solve.specs.Decisions.{NoForeign, Built, Complete, NoneMeets, FitsSolve, Lone, DifferAt, TwoFit, OnlyFront}
-use Rattle.solve.proofs.Places.{place_of, place_split, width_positive}
+use Rattle.code.proofs.Places.{place_parts}
+use Rattle.solve.proofs.Places.{place_split, width_positive}
 use Rattle.solve.proofs.Elimination.{base_solves, alone_shared, Differ, free_differs, factor_differs}
 use Rattle.solve.proofs.Loading.{loaded_solution}
 use Rattle.solve.proofs.Meeting.{factor_of}
@@ -66,7 +67,7 @@ module _ (F : Operations) (L : Laws F) (code : Code) (held : Held) (cells : List
 
       back : Fits F code held file → (x : ℕ) → x < cell_count code → Meets F code y cells (λ p. get_or file p 0) x
       back K x l v present =
-          let at = place_of code.n (width code) x (width_positive code) l in
+          let at = place_parts code.n (width code) x (width_positive code) l in
           sym (weighted_sum F L code file K.stripe y I K.is_stripe Y (x / width code) (x % width code) at.0 at.1)
           ∙ K.agrees (x / width code) (x % width code) v at.0 at.1 (sym (G x l).0 ∙ present)
 

@@ -7,7 +7,8 @@ use Rattle.code.specs.Stripe.{Held, width}
 use Rattle.code.specs.Held.{Inside, ForeignAt, Before, First}
 use Rattle.encode.specs.Encoding.{cell_count}
 use Rattle.solve.specs.Cells.{Lists, Gathered}
-use Rattle.solve.proofs.Places.{place_of, place_split, width_positive}
+use Rattle.code.proofs.Places.{place_parts}
+use Rattle.solve.proofs.Places.{place_split, width_positive}
 
 -- a cell that comes before has the smaller number
 before_less : (w i d j c : ℕ) → d < w → c < w → Before i d j c → i * w + d < j * w + c
@@ -23,7 +24,7 @@ first_foreign F code held x cells l lists here = ((at.0, at.1), here, none)
     w = width code
 
     at : (x / w < code.n) × (x % w < w) × (x / w * w + x % w ≡ x)
-    at = place_of code.n w x (width_positive code) l
+    at = place_parts code.n w x (width_positive code) l
 
     none : (i d : ℕ) → Inside code i d → ForeignAt F held i d → Before i d (x / w) (x % w) → ⊥
     none i d inside foreign before =

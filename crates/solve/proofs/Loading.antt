@@ -7,12 +7,12 @@ use Rattle.field.specs.Laws.{Operations, Laws}
 use Rattle.algebra.proofs.Bridge.{zero_below}
 use Rattle.code.specs.declared.record.Code.{Code}
 use Rattle.code.specs.Stripe.{Symbols, width}
-use Rattle.code.proofs.Places.{place_injective, place_below}
+use Rattle.code.proofs.Places.{place_injective, place_below, place_parts}
 use Rattle.theorems.proofs.Files.{place_node}
 use Rattle.solve.specs.Systems.{entry, Keeps, Solution, Pivot, Empty, Reduced}
 use Rattle.encode.specs.Encoding.{cell_count}
 use Rattle.solve.specs.Cells.{ListsSymbols, Loaded, LoadedRow, DataMet, Meets, Factors, Vector, cell_at, cell_of}
-use Rattle.solve.proofs.Places.{place_of, place_split, width_positive, few_symbols}
+use Rattle.solve.proofs.Places.{place_split, width_positive, few_symbols}
 use Rattle.solve.proofs.Elimination.{keeps_alone, keeps_zeros}
 
 module _ (code : Code) (cells : List (Option ℕ)) where
@@ -143,7 +143,7 @@ module _ (code : Code) (cells : List (Option ℕ)) where
 
     -- number x of the list, if it is the data cell of place p
     listed_cell : (x p : ℕ) → x < cell_count code → p < code.k * code.m → p / code.m ≡ x / width code → p % code.m ≡ x % width code → cell_at code p ≡ x
-    listed_cell x p lx lp e f = ap₂ (λ a b. a * width code + b) e f ∙ (place_of code.n (width code) x (width_positive code) lx).2
+    listed_cell x p lx lp e f = ap₂ (λ a b. a * width code + b) e f ∙ (place_parts code.n (width code) x (width_positive code) lx).2
 
     pub loaded_met : DataMet F code cells (entry (code.k * code.m) w)
     loaded_met y Y u U S x lx D v present = data_cell y Y u U (x / width code) (x % width code) D.0 D.1 ∙ value (R place inside)

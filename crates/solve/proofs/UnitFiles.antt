@@ -1,5 +1,5 @@
 -- The factors of one place in all cells, from one data column.
-use Rattle.std.proofs.Common.{◌≡◌, ℕ, ◌+◌, ◌-◌, ◌*◌, ◌/◌, ◌%◌, ◌<◌, ◌≤◌, ◌≢◌, List, length, get_or, set, Ok, Err, Result, sym, refl, ap, ◌∙◌, subst, ap₂, add-zero, arith, get_or-set_other, get_or-set_same}
+use Rattle.std.proofs.Common.{◌≡◌, ℕ, ◌+◌, ◌-◌, ◌*◌, ◌/◌, ◌%◌, ◌<◌, ◌≤◌, ◌≢◌, List, [], length, get_or, set, Ok, Err, Result, sym, refl, ap, ◌∙◌, subst, ap₂, add-zero, arith, get_or-set_other, get_or-set_same}
 use native.Mathlib.Decide.{ℕ_discrete, dec_lt}
 use Rattle.std.proofs.lemmas.List.{length-set, get_or_past}
 use Rattle.field.specs.Laws.{Operations, Laws, power}
@@ -121,29 +121,11 @@ unit_encoded F L code j m blank before after r e lj long zeros room E =
     inside : j * code.m < code.k * code.m
     inside = let p : j * code.m + 0 < code.k * code.m = place_below code.k code.m j 0 lj (omega (arith, code.data_columns.0)) in omega arith
 
--- the table with one more node in the column of j
-pub table_step : (j v x count : ℕ) (f : ℕ → ℕ) (before table : List ℕ) → j < 64 → v * 64 + j < length table → x ≡ f v
-    → ((i : ℕ) → i < v → get_or table (i * 64 + j) 0 ≡ f i)
-    → ((w i : ℕ) → i < 64 → (i ≡ j → ⊥) → get_or table (w * 64 + i) 0 ≡ get_or before (w * 64 + i) 0)
-    → ((i : ℕ) → i < v + 1 → get_or (set table (v * 64 + j) x) (i * 64 + j) 0 ≡ f i)
-    × ((w i : ℕ) → i < 64 → (i ≡ j → ⊥) → get_or (set table (v * 64 + j) x) (w * 64 + i) 0 ≡ get_or before (w * 64 + i) 0)
-table_step j v x count f before table lj l e done kept = (more, others)
-  where
-    more : (i : ℕ) → i < v + 1 → get_or (set table (v * 64 + j) x) (i * 64 + j) 0 ≡ f i
-    more i li = by_case (ℕ_discrete i v)
-      where
-        by_case : Dec (i ≡ v) → get_or (set table (v * 64 + j) x) (i * 64 + j) 0 ≡ f i
-        by_case (yes q) = rw q (get_or-set_same table (v * 64 + j) x 0 l ∙ e)
-        by_case (no q) = let d : i * 64 + j ≢ v * 64 + j = omega arith in get_or-set_other table (v * 64 + j) (i * 64 + j) x 0 d ∙ done i (omega arith)
-
-    others : (w i : ℕ) → i < 64 → (i ≡ j → ⊥) → get_or (set table (v * 64 + j) x) (w * 64 + i) 0 ≡ get_or before (w * 64 + i) 0
-    others w i li d = get_or-set_other table (v * 64 + j) (w * 64 + i) x 0 (λ q. d (place_injective 64 w i v j li lj q).1) ∙ kept w i li d
-
 -- the column of j, copied from the cells of a unit file
-pub column_made : (F : Operations) (L : Laws F) (code : Code) (j columns : ℕ) (cells table : List ℕ) → j < code.k → columns ≡ width code
-    → ((v : ℕ) → v < code.n → get_or table (v * 64 + j) 0 ≡ get_or cells (v * columns) 0) → IsFactor F code (j * code.m) (in_memory code cells)
-    → ColumnOf F code j table
-column_made F L code j columns cells table lj e copied X v t y lv lt Y =
+pub column_made : (F : Operations) (L : Laws F) (code : Code) (j columns : ℕ) (cells column : List ℕ) → j < code.k → columns ≡ width code
+    → ((v : ℕ) → v < code.n → get_or column v 0 ≡ get_or cells (v * columns) 0) → IsFactor F code (j * code.m) (in_memory code cells)
+    → ColumnOf F code j column
+column_made F L code j columns cells column lj e copied X v t y lv lt Y =
     copied v lv
     ∙ ap (λ i. get_or cells i 0) same
     ∙ column_same F L code j 0 t (in_memory code cells) y lj (omega (arith, code.data_columns.0)) lt
@@ -154,10 +136,6 @@ column_made F L code j columns cells table lj e copied X v t y lv lt Y =
 
     start : j * code.m ≡ j * code.m + 0
     start = sym (add-zero (j * code.m))
-
-pub column_kept : (F : Operations) (code : Code) (i : ℕ) (before after : List ℕ)
-    → ((v : ℕ) → get_or after (v * 64 + i) 0 ≡ get_or before (v * 64 + i) 0) → ColumnOf F code i before → ColumnOf F code i after
-column_kept F code i before after same C v t y lv lt Y = same v ∙ C v t y lv lt Y
 
 pub weight_same : (F : Operations) (L : Laws F) (code : Code) (v c t : ℕ) → v < code.n → c < width code → c ≡ t → Weight F code v c t v 1
 weight_same F L code v c t lv lc e = record {
@@ -200,9 +178,9 @@ factor_step m t j x f before row lt l e done kept = (more, others)
     others i away = get_or-set_other row (j * m + t) i x 0 (λ p. away j (omega arith) p) ∙ kept i (λ h lh p. away h (omega arith) p)
 
 -- the factors of one more data column
-pub equation_step : (F : Operations) (code : Code) (v c t w scale : ℕ) (table before after : List ℕ) → t < code.m → ColumnTable F code table
+pub equation_step : (F : Operations) (code : Code) (v c t w scale : ℕ) (table : List (List ℕ)) (before after : List ℕ) → t < code.m → ColumnTable F code table
     → Weight F code v c t w scale
-    → ((j : ℕ) → j < code.k → get_or after (j * code.m + t) 0 ≡ F.mul scale (get_or table (w * 64 + j) 0))
+    → ((j : ℕ) → j < code.k → get_or after (j * code.m + t) 0 ≡ F.mul scale (get_or (get_or table j []) w 0))
     → ((i : ℕ) → ((j : ℕ) → j < code.k → i ≡ j * code.m + t → ⊥) → get_or after i 0 ≡ get_or before i 0)
     → ((j s : ℕ) (y : Symbols) → j < code.k → s < t → IsFactor F code (j * code.m + s) y → get_or before (j * code.m + s) 0 ≡ y v c)
     → (j s : ℕ) (y : Symbols) → j < code.k → s < t + 1 → IsFactor F code (j * code.m + s) y → get_or after (j * code.m + s) 0 ≡ y v c

@@ -1,20 +1,20 @@
 -- The factors of a file's places in the cells of its stripe, as numbers in tables and rows.
-use Rattle.std.specs.Prelude.{◌≡◌, ℕ, ◌+◌, ◌*◌, ◌<◌, List, slice_index, slice_index_or}
+use Rattle.std.specs.Prelude.{◌≡◌, ℕ, ◌+◌, ◌*◌, ◌<◌, List, [], slice_index, slice_index_or}
 use Rattle.field.specs.Laws.{Operations}
 use Rattle.code.specs.declared.record.Code.{Code}
 use Rattle.code.specs.Stripe.{Symbols}
 use Rattle.theorems.specs.Linear.{IsFactor}
 
--- column j of the table is the data column that is 1 at data node j and 0 at the others: number 64·v + j is the factor
--- of each place (j, t) in the cell (v, t)
+-- the column is the data column that is 1 at data node j and 0 at the others: number v is the factor of each place
+-- (j, t) in the cell (v, t)
 abbrev pub ColumnOf : Operations → Code → ℕ → List ℕ → Type 0
-ColumnOf F code j table =
+ColumnOf F code j column =
     (v t : ℕ) (y : Symbols) → v < code.n → t < code.m → IsFactor F code (j * code.m + t) y
-    → slice_index table (v * 64 + j) ≡ y v t
+    → slice_index column v ≡ y v t
 
 -- all k columns
-abbrev pub ColumnTable : Operations → Code → List ℕ → Type 0
-ColumnTable F code table = (j : ℕ) → j < code.k → ColumnOf F code j table
+abbrev pub ColumnTable : Operations → Code → List (List ℕ) → Type 0
+ColumnTable F code table = (j : ℕ) → j < code.k → ColumnOf F code j (slice_index_or table j [])
 
 -- a multiple of the factors of the places (j, t) in the cell (w, t) are their factors in the cell (v, c)
 pub record Weight (F : Operations) (code : Code) (v c t w scale : ℕ) : Type 0 where

@@ -14,7 +14,7 @@ pub(crate) fn gather<F: Field, S: Store>(
 {
     let columns = code.columns();
     let mut cells = [None; MOST_CELLS];
-    // by index: x is divided into a node and a column
+    // by index: over `iter_mut` of the part that is filled the proof did not close, since its length stayed open
     for x in 0..code.nodes() * columns {
         let (node, column) = (x / columns, x % columns);
         match store.cell(node, column) {

@@ -1,5 +1,5 @@
 // The factors of a file's places in the cells of its stripe.
-ghost use Rattle.std.specs.Prelude.{◌≡◌, ℕ, ◌+◌, ◌*◌, ◌<◌, ◌≤◌, length, ◌≢◌, slice_index};
+ghost use Rattle.std.specs.Prelude.{◌≡◌, ℕ, ◌+◌, ◌*◌, ◌<◌, ◌≤◌, length, ◌≢◌, [], slice_index, slice_index_or};
 ghost use Rattle.code.specs.Stripe.{width};
 ghost use Rattle.theorems.specs.Linear.{IsFactor};
 ghost use Rattle.encode.specs.Encoding.{in_memory};
@@ -10,8 +10,11 @@ use code::{Code, MOST_CELLS, MOST_NODES, MOST_SYMBOLS};
 use encode::encode;
 use field::{Field, power};
 
-// The numbers of a table of columns: 64 for each of up to 64 nodes.
-pub(crate) const TABLE: usize = 4096;
+// A data column, one number for each node that a code can have.
+type Column = [u16; MOST_NODES];
+
+// The unit columns of a code: number j is the data column that is 1 at data node j and 0 at the others.
+pub(crate) type Table = [Column; MOST_NODES];
 
 // Encodes the file that is 1 at data node j, column 0, and 0 elsewhere.
 fn encode_unit<F: Field>(code: &Code, j: usize, file: &mut [u16], cells: &mut [u16; MOST_CELLS])
@@ -21,33 +24,33 @@ fn encode_unit<F: Field>(code: &Code, j: usize, file: &mut [u16], cells: &mut [u
 {
     file.fill(0);
     file[j * code.data_columns()] = 1;
+    // never declined: the file has the code's length, and the cells have room for every code
     let _ = encode::<F>(code, file, cells);
 }
 
-// Column j of the table: the data column that is 1 at data node j and 0 at the others.
-fn unit_column<F: Field>(code: &Code, j: usize, table: &mut [u16; TABLE])
+// The data column that is 1 at data node j and 0 at the others.
+fn unit_column<F: Field>(code: &Code, j: usize, column: &mut Column)
     requires { j < code.now.k }
-    ensures made { ColumnOf F.ops code.now j table.new }
-    ensures kept { (v i : ℕ) → i < 64 → (i ≢ j)
-        → slice_index table.new (v * 64 + i) ≡ slice_index table.old (v * 64 + i) }
+    ensures { ColumnOf F.ops code.now j column.new }
 {
     let mut file = [0; MOST_SYMBOLS];
     let mut cells = [0; MOST_CELLS];
     encode_unit::<F>(code, j, &mut file[..code.file_length()], &mut cells);
     let columns = code.columns();
-    // by index: a row of the table has 64 numbers, and one of the cells as many as there are columns
-    for v in 0..code.nodes() {
-        table[v * MOST_NODES + j] = cells[v * columns];
+    let nodes = &mut column[..code.nodes()];
+    for (v, x) in nodes.iter_mut().enumerate() {
+        *x = cells[v * columns];
     }
 }
 
 // The data columns of the k unit columns, one for each data node.
-pub(crate) fn column_table<F: Field>(code: &Code) -> [u16; TABLE]
+pub(crate) fn column_table<F: Field>(code: &Code) -> Table
     ensures { ColumnTable F.ops code.now result }
 {
-    let mut table = [0; TABLE];
+    let mut table = [[0; MOST_NODES]; MOST_NODES];
+    // by index: no proof covers a column of `iter_mut` that is handed on
     for j in 0..code.data_nodes() {
-        unit_column::<F>(code, j, &mut table);
+        unit_column::<F>(code, j, &mut table[j]);
     }
     table
 }
@@ -68,10 +71,10 @@ fn weight<F: Field>(code: &Code, v: usize, c: usize, t: usize) -> (usize, u32)
     (code.behind(code.behind(v, i), t + 1), u32::from(scale))
 }
 
-// Puts the factors of the places (j, t) into a row: `scale` times what the table has for node w.
+// Puts the factors of the places (j, t) into a row: `scale` times what column j holds at node w.
 fn put_factors<F: Field>(
     code: &Code,
-    table: &[u16; TABLE],
+    table: &Table,
     w: usize,
     scale: u32,
     t: usize,
@@ -81,21 +84,20 @@ fn put_factors<F: Field>(
     requires data_column { t < code.now.m }
     requires row { code.now.k * code.now.m ≤ length row.old }
     ensures made { (j : ℕ) → j < code.now.k
-        → slice_index row.new (j * code.now.m + t) ≡ F.ops.mul scale (slice_index table.now (w * 64 + j)) }
+        → slice_index row.new (j * code.now.m + t) ≡ F.ops.mul scale (slice_index (slice_index_or table.now j []) w) }
     ensures kept { (i : ℕ) → ((j : ℕ) → j < code.now.k → i ≢ j * code.now.m + t)
         → slice_index row.new i ≡ slice_index row.old i }
 {
     let m = code.data_columns();
-    // by index: the numbers that are written stand m apart
-    for j in 0..code.data_nodes() {
-        row[j * m + t] = times::<F>(scale, u32::from(table[w * MOST_NODES + j]));
+    for (j, column) in table[..code.data_nodes()].iter().enumerate() {
+        row[j * m + t] = times::<F>(scale, u32::from(column[w]));
     }
 }
 
 // Makes a row the equation of the cell (v, c) that holds the value.
 pub(crate) fn equation<F: Field>(
     code: &Code,
-    table: &[u16; TABLE],
+    table: &Table,
     v: usize,
     c: usize,
     value: u16,

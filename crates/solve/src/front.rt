@@ -1,4 +1,4 @@
-// The front of lent memory, which holds zeros once this is let go.
+// The front of lent memory. It holds zeros once this is let go, unless `keep` leaves it as it is.
 ghost use Rattle.std.specs.Prelude.{◌≡◌, ℕ, slice_index};
 
 pub(crate) struct Front<'w> {
@@ -10,6 +10,7 @@ impl Drop for Front<'_> {
         ensures { (p : ℕ) → slice_index self.exit.0.now p ≡ 0 }
     {
         self.numbers.fill(0);
+        // a `drop` takes its value apart, as Rattle asks
         let Front { numbers: _ } = self;
     }
 }

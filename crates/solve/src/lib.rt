@@ -37,8 +37,8 @@ fn front_size(code: &Code, work: &[u32]) -> Result<usize, Refusal>
 
 /// The symbol that all fitting files share at the place (row, column). Declined with 4 if the work memory is below
 /// k·m·(k·m + 1) numbers, with 5 if the place is outside, with 7 for the first present cell that is no symbol, with
-/// 9 if no file fits, and with 10 if two fitting files differ there. The front of the work memory holds zeros
-/// afterwards, unless it is 4 or 5; the numbers behind it are kept.
+/// 9 if no file fits, and with 10 if two fitting files differ there. Declined with 4 or 5, the work memory is as it
+/// was; otherwise its first k·m·(k·m + 1) numbers are zeros afterwards, and those behind are kept.
 pub fn shared_symbol<F: Field, S: Store>(
     code: &Code,
     store: &S,
@@ -57,9 +57,9 @@ pub fn shared_symbol<F: Field, S: Store>(
     decide::<F, S>(code, store, place, &mut work[..size])
 }
 
-/// Leaves the only fitting file in the first k·m numbers of the work memory, with zeros in the rest of the front, and
-/// returns k·m. Declined with 4, 7, 9, and with 10 if two different files fit; the front then holds zeros, unless it
-/// is 4. The numbers behind the front are kept.
+/// Leaves the only fitting file in the first k·m numbers of the work memory, and returns k·m. Declined with 4, 7 and 9
+/// as above, and with 10 if two different files fit. Declined with 4, the work memory is as it was; otherwise the rest
+/// of its first k·m·(k·m + 1) numbers, and all of them if declined, are zeros afterwards, and those behind are kept.
 pub fn only_file<F: Field, S: Store>(
     code: &Code,
     store: &S,

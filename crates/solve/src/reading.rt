@@ -68,11 +68,13 @@ pub(crate) fn decide<F: Field, S: Store>(
     ensures decided { Decided F.ops code.now (S.meaning store.now).cell place result }
     ensures zeros { (p : ℕ) → slice_index work.new p ≡ 0 }
 {
+    // these lines stand in `find_only`, too: what is borrowed from the front does not outlive it
     let front = Front { numbers: work };
     let numbers = &mut *front.numbers;
     let mut equations = Equations::new(numbers, code.file_length());
     solve::<F, S>(code, store, &mut equations)?;
     match equations.lone(place) {
+        // a symbol, so that nothing is lost; `try_from` would want an answer for numbers that do not occur
         Some(value) => Ok(value as u16),
         None => Err(Refusal::Ambiguous),
     }

@@ -14,7 +14,7 @@ fn scale<F: Field>(row: &mut [u32], by: u32)
     }
 }
 
-// Puts a multiple of a row in place of row s, where all rows are as long.
+// Puts a multiple of a row in place of row s of the memory. The rows of the memory have the length of this one.
 pub(crate) fn put_row<F: Field>(work: &mut [u32], s: usize, row: &[u32], by: u32)
     requires { s * length row.now + length row.now ≤ length work.old }
     ensures { RowIs (length row.now) s (λ c. F.ops.mul by (slice_index row.now c)) work.old work.new }
@@ -34,7 +34,8 @@ pub(crate) fn subtract_row<F: Field>(work: &mut [u32], width: usize, s: usize, p
         (λ c. F.ops.sub (slice_index work.old (s * width + c)) (F.ops.mul by (slice_index work.old (p * width + c))))
         work.old work.new }
 {
-    // by index: both rows lie in the one slice, and either may come first
+    // Beside `subtract_from` of the system, which takes two slices: here both rows lie in the one slice, and either may
+    // come first. So it goes by index, too.
     for c in 0..width {
         work[s * width + c] = minus::<F>(work[s * width + c], times::<F>(by, work[p * width + c]));
     }

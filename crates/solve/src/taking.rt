@@ -5,14 +5,14 @@ ghost use Rattle.solve.specs.Factors.{ColumnTable};
 ghost use Rattle.encode.specs.Encoding.{cell_count};
 ghost use Rattle.solve.specs.Cells.{ListsSymbols, Loaded, Took, TookAll, Contradicts, DataMet};
 
-use crate::factors::{TABLE, equation};
+use crate::factors::{Table, equation};
 use crate::system::Equations;
 use code::{Code, MOST_CELLS, MOST_SYMBOLS, Refusal};
 use field::Field;
 use std::marker::PhantomData;
 
 // The numbers of a row that has a factor for each symbol of the longest file, and a right side.
-pub(crate) const ROW: usize = 505;
+pub(crate) const ROW: usize = MOST_SYMBOLS + 1;
 
 // The cells of a store, each a symbol or lost, and the table of which the equations of the present ones are made.
 // That there is an equation for each symbol of a file stays a clause of the methods: in a struct around `Equations` the
@@ -21,7 +21,7 @@ pub(crate) const ROW: usize = 505;
 pub(crate) struct Listing<'c, F: Field> {
     pub(crate) code: &'c Code,
     pub(crate) cells: &'c [Option<u16>; MOST_CELLS],
-    pub(crate) table: &'c [u16; TABLE],
+    pub(crate) table: &'c Table,
     pub(crate) field: PhantomData<F>,
     ghost symbols: { ListsSymbols F.ops code.now cells.now },
     ghost factors: { ColumnTable F.ops code.now table.now },
@@ -34,7 +34,8 @@ impl<F: Field> Listing<'_, F> {
         requires blank { Loaded self.now.code.now self.now.cells.now 0 equations.old.numbers.now known.old }
         ensures size { equations.new.n ≡ equations.old.n }
         ensures memory { equations.new.numbers.ghost_name ≡ equations.old.numbers.ghost_name }
-        ensures loaded { Loaded self.now.code.now self.now.cells.now (self.now.code.now.k * self.now.code.now.m) equations.new.numbers.now known.new }
+        ensures loaded { Loaded self.now.code.now self.now.cells.now (self.now.code.now.k * self.now.code.now.m)
+            equations.new.numbers.now known.new }
     {
         let m = self.code.data_columns();
         let columns = self.code.columns();
@@ -47,7 +48,8 @@ impl<F: Field> Listing<'_, F> {
         }
     }
 
-    // Takes up cell number x of the list, unless it is lost or a data cell of the first k nodes. The row is scratch memory.
+    // Takes up cell number x of the list, unless it is lost or a data cell of the first k nodes. The row is scratch
+    // memory.
     fn take_cell(
         &self,
         known: &[bool; MOST_SYMBOLS],
@@ -61,7 +63,8 @@ impl<F: Field> Listing<'_, F> {
         requires reduced { Reduced F.ops equations.old.n (entry equations.old.n equations.old.numbers.now) }
         ensures size { equations.new.n ≡ equations.old.n }
         ensures memory { equations.new.numbers.ghost_name ≡ equations.old.numbers.ghost_name }
-        ensures took { Took F.ops self.now.code.now self.now.cells.now known.now x (entry equations.old.n equations.old.numbers.now) result
+        ensures took { Took F.ops self.now.code.now self.now.cells.now known.now x
+            (entry equations.old.n equations.old.numbers.now) result
             (entry equations.old.n equations.new.numbers.now) }
     {
         let columns = self.code.columns();
@@ -87,7 +90,8 @@ impl<F: Field> Listing<'_, F> {
         requires length { equations.old.n ≡ self.now.code.now.k * self.now.code.now.m }
         requires marked { KnownRows equations.old.n known.now (entry equations.old.n equations.old.numbers.now) }
         requires reduced { Reduced F.ops equations.old.n (entry equations.old.n equations.old.numbers.now) }
-        requires met { DataMet F.ops self.now.code.now self.now.cells.now (entry equations.old.n equations.old.numbers.now) }
+        requires met { DataMet F.ops self.now.code.now self.now.cells.now
+            (entry equations.old.n equations.old.numbers.now) }
         ensures size { equations.new.n ≡ equations.old.n }
         ensures memory { equations.new.numbers.ghost_name ≡ equations.old.numbers.ghost_name }
         ensures took { Unless result

@@ -2,14 +2,15 @@ use Rattle.std.proofs.Common.{◌/◌, ◌%◌, ◌<◌, sym, subst, arith}
 use Rattle.code.specs.Stripe.{width}
 use Rattle.solve.specs.Systems.{entry}
 use Rattle.solve.specs.Cells.{Took}
-use Rattle.solve.proofs.Places.{place_of, width_positive}
+use Rattle.code.proofs.Places.{place_parts}
+use Rattle.solve.proofs.Places.{width_positive}
 use Rattle.solve.proofs.Meeting.{took_cell, equation_below}
 use Rattle.solve.proofs.taking.Listing.take_cell.Goals as goal
 
 pub absorb-requires-clause-below : goal.absorb-requires-clause-below
 absorb-requires-clause-below g c = λ i l.
     let code = c.args.self.now.code.now in
-    let at = place_of code.n (width code) c.args.x (width_positive code) c.requires.inside in
+    let at = place_parts code.n (width code) c.args.x (width_positive code) c.requires.inside in
     let w = sym c.columns-columns.ensures in
     equation_below g.F.Field.ops g.met.F.Field.laws code (c.args.x / c.columns-columns.result) (c.args.x % c.columns-columns.result)
     c.in-Some.value c.equation.new.row (subst (λ t. c.args.x / t < code.n) w at.0) (subst (λ t. c.args.x % t < width code) w at.1)
