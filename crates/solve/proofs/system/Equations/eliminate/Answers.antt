@@ -4,11 +4,6 @@ use Rattle.solve.proofs.Steps.{OutUpTo, out_skip, out_pass, out_row}
 use Rattle.solve.proofs.system.Equations.eliminate.Goals as goal
 use Rattle.solve.proofs.system.Equations.eliminate.Goals.{then-s-c, else-s-c}
 
-pub bounds-numbers-s : goal.bounds-numbers-s
-bounds-numbers-s g c =
-    let low : c.in-Some.s < c.args.self.now.n = omega (arith, c.in-Some.ensures) in
-    omega (arith, row_inside (c.args.self.now.n + 1) c.args.self.now.n c.in-Some.s low)
-
 pub subtract_row-requires : goal.subtract_row-requires
 subtract_row-requires g c =
     let low : c.in-Some.s < c.args.self.now.n = omega (arith, c.in-Some.ensures) in

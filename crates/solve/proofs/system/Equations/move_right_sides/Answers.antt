@@ -3,9 +3,6 @@ use Rattle.solve.specs.Systems.{entry}
 use Rattle.solve.proofs.Memory.{row_inside, front_more, right_behind}
 use Rattle.solve.proofs.system.Equations.move_right_sides.Goals as goal
 
-pub bounds-numbers-p : goal.bounds-numbers-p
-bounds-numbers-p c = let l : c.loop-p.p < c.args.self.now.n = omega arith in omega (arith, row_inside (c.args.self.now.n + 1) c.args.self.now.n c.loop-p.p l)
-
 pub loop-p-preserved : goal.loop-p-preserved
 loop-p-preserved c =
     let l : c.loop-p.p < c.args.self.now.n = omega arith in

@@ -5,11 +5,6 @@ use Rattle.solve.proofs.Steps.{remainder_skip, remainder_take}
 use Rattle.solve.proofs.system.Equations.reduce.Goals as goal
 use Rattle.solve.proofs.system.Equations.reduce.Goals.{then-self-p-ne0+then-row-p-ne0, else-self-p-ne0, else-self-p-ne0-via-then-self-p-ne0+else-row-p-ne0, else-self-p-ne0-via-else-self-p-ne0}
 
-pub bounds-self-p : goal.bounds-self-p
-bounds-self-p g c =
-    let lp : c.loop-p.p < c.args.self.now.n = omega arith in
-    omega (arith, row_inside (c.args.self.now.n + 1) c.args.self.now.n c.loop-p.p lp)
-
 pub loop-p-preserved : goal.loop-p-preserved
 loop-p-preserved g c =
     let F = g.F.Field.ops in

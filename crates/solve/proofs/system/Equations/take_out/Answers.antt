@@ -5,16 +5,6 @@ use Rattle.solve.proofs.Memory.{row_inside}
 use Rattle.solve.proofs.Steps.{take_known}
 use Rattle.solve.proofs.system.Equations.take_out.Goals as goal
 
-pub bounds-self-a : goal.bounds-self-a
-bounds-self-a g c =
-    let lp : c.args.p < c.args.self.now.n = omega arith in
-    omega (arith, row_inside (c.args.self.now.n + 1) c.args.self.now.n c.args.p lp)
-
-pub slice_bounds-subtract_from-end : goal.slice_bounds-subtract_from-end
-slice_bounds-subtract_from-end g c =
-    let lp : c.args.p < c.args.self.now.n = omega arith in
-    omega (arith, row_inside (c.args.self.now.n + 1) c.args.self.now.n c.args.p lp)
-
 pub returns-then-known-p : goal.returns-then-known-p
 returns-then-known-p g c =
     let F = g.F.Field.ops in
