@@ -71,10 +71,6 @@ pub row_other : (width s : ℕ) (f : ℕ → ℕ) (before after : List ℕ) → 
 row_other width s f before after R p c h d =
     elim (rows_apart width s p c h d) [ inl l ↦ R.ahead (p * width + c) l | inr l ↦ R.behind (p * width + c) l ]
 
--- the place of a number of row s of `count` rows
-pub row_inside : (width count s : ℕ) → s < count → s * width + width ≤ count * width
-row_inside width count s h = let m : s + 1 ≤ count = omega arith in omega (arith, mul-le-mul_right width m)
-
 -- a memory of which the first numbers are those of f
 pub front_more : (p x : ℕ) (f : ℕ → ℕ) (before after : List ℕ) → p < length after → x ≡ f p
     → ((i : ℕ) → i < p → get_or after i 0 ≡ f i) → ((i : ℕ) → p ≤ i → get_or after i 0 ≡ get_or before i 0)

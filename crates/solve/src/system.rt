@@ -81,7 +81,7 @@ impl<'w> Equations<'w> {
     }
 
     // Moves the right sides of the equations to the first n numbers.
-    #[tactic(auto, using(crate::proofs::Memory::row_inside))]
+    #[tactic(auto, using(encode::proofs::Windows::row_end))]
     pub(crate) fn move_right_sides(&mut self)
         ensures size { self.new.n ≡ self.old.n }
         ensures memory { self.new.numbers.ghost_name ≡ self.old.numbers.ghost_name }
@@ -97,7 +97,7 @@ impl<'w> Equations<'w> {
     }
 
     // Takes symbol c out of every equation but the one that is kept for it, whose factor there is 1.
-    #[tactic(auto, using(crate::proofs::Memory::row_inside))]
+    #[tactic(auto, using(encode::proofs::Windows::row_end))]
     fn eliminate<F: Field>(&mut self, c: usize)
         requires symbol { c < self.old.n }
         requires below { (p j : ℕ) → p < self.old.n → j < self.old.n + 1
@@ -140,7 +140,7 @@ impl<'w> Equations<'w> {
     }
 
     // Takes symbol p out of a row by the equation of p. Where p is known, only the right side has more to change.
-    #[tactic(auto, using(crate::proofs::Memory::row_inside))]
+    #[tactic(auto, using(encode::proofs::Windows::row_end))]
     fn take_out<F: Field>(&self, known: &[bool; MOST_SYMBOLS], p: usize, row: &mut [u32])
         requires symbol { p < self.now.n }
         requires row { length row.old ≡ self.now.n + 1 }
@@ -161,7 +161,7 @@ impl<'w> Equations<'w> {
     }
 
     // Takes every symbol that has an equation out of a row.
-    #[tactic(auto, using(crate::proofs::Memory::row_inside))]
+    #[tactic(auto, using(encode::proofs::Windows::row_end))]
     fn reduce<F: Field>(&self, known: &[bool; MOST_SYMBOLS], row: &mut [u32])
         requires row { length row.old ≡ self.now.n + 1 }
         requires marked { KnownRows self.now.n known.now (entry self.now.n self.now.numbers.now) }

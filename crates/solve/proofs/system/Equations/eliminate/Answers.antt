@@ -1,5 +1,5 @@
 use Rattle.std.proofs.Common.{◌+◌, ◌<◌, refl, arith}
-use Rattle.solve.proofs.Memory.{row_inside}
+use Rattle.encode.proofs.Windows.{row_end}
 use Rattle.solve.proofs.Steps.{OutUpTo, out_skip, out_pass, out_row}
 use Rattle.solve.proofs.system.Equations.eliminate.Goals as goal
 use Rattle.solve.proofs.system.Equations.eliminate.Goals.{then-s-c, else-s-c}
@@ -10,8 +10,8 @@ subtract_row-requires g c =
     let lc : c.args.c < c.args.self.now.n = omega arith in
     record {
       differ = c.if-s-c.true;
-      inside = omega (arith, row_inside (c.args.self.now.n + 1) c.args.self.now.n c.in-Some.s low);
-      other_inside = omega (arith, row_inside (c.args.self.now.n + 1) c.args.self.now.n c.args.c lc);
+      inside = omega (arith, row_end c.in-Some.s (c.args.self.now.n + 1) c.args.self.now.n low);
+      other_inside = omega (arith, row_end c.args.c (c.args.self.now.n + 1) c.args.self.now.n lc);
     }
 
 pub loop-s-preserved : goal.loop-s-preserved

@@ -1,13 +1,13 @@
 use Rattle.std.proofs.Common.{◌+◌, ◌<◌, get_or, subst, arith}
 use Rattle.solve.specs.Rows.{RowIs}
-use Rattle.solve.proofs.Memory.{row_inside}
+use Rattle.encode.proofs.Windows.{row_end}
 use Rattle.solve.proofs.Steps.{scaled_below, installed}
 use Rattle.solve.proofs.system.Equations.install.Goals as goal
 
 pub put_row-requires : goal.put_row-requires
 put_row-requires g c =
     let lc : c.args.c < c.args.self.now.n = omega arith in
-    rw c.requires.row (omega (arith, row_inside (c.args.self.now.n + 1) c.args.self.now.n c.args.c lc))
+    rw c.requires.row (omega (arith, row_end c.args.c (c.args.self.now.n + 1) c.args.self.now.n lc))
 
 pub eliminate-requires : goal.eliminate-requires
 eliminate-requires g c =

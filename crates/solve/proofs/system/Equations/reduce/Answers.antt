@@ -1,6 +1,5 @@
 use Rattle.std.proofs.Common.{ℕ, ◌+◌, ◌<◌, get_or, inl, inr, arith}
 use Rattle.solve.specs.Systems.{entry}
-use Rattle.solve.proofs.Memory.{row_inside}
 use Rattle.solve.proofs.Steps.{remainder_skip, remainder_take}
 use Rattle.solve.proofs.system.Equations.reduce.Goals as goal
 use Rattle.solve.proofs.system.Equations.reduce.Goals.{then-self-p-ne0+then-row-p-ne0, else-self-p-ne0, else-self-p-ne0-via-then-self-p-ne0+else-row-p-ne0, else-self-p-ne0-via-else-self-p-ne0}

@@ -1,7 +1,6 @@
 use Rattle.std.proofs.Common.{◌≡◌, ◌+◌, ◌-◌, ◌*◌, ◌<◌, get_or, drop, ap, ◌∙◌, arith}
 use Rattle.std.proofs.lemmas.List.{get_or-take, get_or-drop}
 use Rattle.solve.specs.Systems.{entry}
-use Rattle.solve.proofs.Memory.{row_inside}
 use Rattle.solve.proofs.Steps.{take_known}
 use Rattle.solve.proofs.system.Equations.take_out.Goals as goal
 
