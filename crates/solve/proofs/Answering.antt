@@ -9,6 +9,7 @@ use Rattle.code.specs.declared.refusal.Refusal.{Refusal}
 use Rattle.code.specs.declared.refusal.Refusal.TheVariants.{Bounds, Shape, Length, Work, Outside, Symbol, Foreign, Lost, Contradiction, Ambiguous, Allowance}
 use Rattle.code.specs.Refusals.{Least, number}
 use Rattle.code.specs.Stripe.{Held, Fits}
+use Rattle.code.specs.Held.{Inside, ForeignAt, First}
 use Rattle.code.specs.Work.{front, WorkAfter, Cleared}
 use Rattle.solve.specs.Answers.{SharedHolds, SharedSymbol, OnlyHolds, OnlyIn, OnlyFile}
 use Rattle.solve.specs.Decisions.{NoForeign, Fails, Decided, DifferAt, TwoFit, OnlyDecided, OnlyFront}
@@ -39,17 +40,11 @@ module _ (F : Operations) (code : Code) (held : Held) where
     shared_answer (Ok v) D = (none, D.1)
       where
         none : (e : Refusal) → SharedHolds F code held row column work e → ⊥
-        none Bounds h = h
-        none Shape h = h
-        none Length h = h
-        none Work h = omega arith
-        none Outside h = h inside
-        none Symbol h = h
-        none (Foreign v c) h = D.0 v c h.0 h.1
-        none (Lost v c) h = h
-        none Contradiction h = h D.1.fitting D.1.fits
-        none Ambiguous h = h.4 (D.1.shared h.0 h.2 ∙ sym (D.1.shared h.1 h.3))
-        none Allowance h = h
+        none e h =
+            let no : (v c : ℕ) → First (Inside code) (ForeignAt F held) v c → ⊥ = λ v c k. D.0 v c k.0 k.1 in
+            let some : ((u : List ℕ) → Fits F code held u → ⊥) → ⊥ = λ k. k D.1.fitting D.1.fits in
+            let same : DifferAt F code held (row * code.m + column) → ⊥ = λ k. k.4 (D.1.shared k.0 k.2 ∙ sym (D.1.shared k.1 k.3)) in
+            grind (arith, common_steps, no, some, same)
     shared_answer (Err Bounds) D = absurd D
     shared_answer (Err Shape) D = absurd D
     shared_answer (Err Length) D = absurd D
@@ -94,17 +89,11 @@ module _ (F : Operations) (code : Code) (held : Held) where
         let no : ((v : List ℕ) → Fits F code held v → ⊥) → ⊥ = λ k. k u U in grind (arith, common_steps, proper, no)
 
     pub only_none : (w : List ℕ) → NoForeign F code held → OnlyFront F code held w → (e : Refusal) → OnlyHolds F code held work e → ⊥
-    only_none w proper O Bounds h = h
-    only_none w proper O Shape h = h
-    only_none w proper O Length h = h
-    only_none w proper O Work h = omega arith
-    only_none w proper O Outside h = h
-    only_none w proper O Symbol h = h
-    only_none w proper O (Foreign v c) h = proper v c h.0 h.1
-    only_none w proper O (Lost v c) h = h
-    only_none w proper O Contradiction h = h O.fitting O.fits
-    only_none w proper O Ambiguous h = h.4 (O.only h.0 h.2 ∙ sym (O.only h.1 h.3))
-    only_none w proper O Allowance h = h
+    only_none w proper O e h =
+        let no : (v c : ℕ) → First (Inside code) (ForeignAt F held) v c → ⊥ = λ v c k. proper v c k.0 k.1 in
+        let some : ((u : List ℕ) → Fits F code held u → ⊥) → ⊥ = λ k. k O.fitting O.fits in
+        let same : TwoFit F code held → ⊥ = λ k. k.4 (O.only k.0 k.2 ∙ sym (O.only k.1 k.3)) in
+        grind (arith, common_steps, no, some, same)
 
     pub only_least : (e : Refusal) → Fails F code held (TwoFit F code held) e → Least (OnlyHolds F code held work) (Some e)
     only_least Bounds D = absurd D

@@ -52,8 +52,8 @@ DataCell code x = (x / width code < code.k) × (x % width code < code.m)
 abbrev pub cell_at : Code → ℕ → ℕ
 cell_at code p = p / code.m * width code + p % code.m
 
--- Of the first `count` symbols, those whose data cell is present have an equation that says what they are, and are marked as known.
--- The equations of the others are empty.
+-- Of the first `count` symbols, those whose data cell is present have an equation that says what they are, and are
+-- marked as known. The equations of the others are empty.
 abbrev pub LoadedRow : Code → List (Option ℕ) → ℕ → List ℕ → List Bool → ℕ → Type 0
 LoadedRow code cells count w known p =
     ((p < count) × (slice_index_or cells (cell_at code p) None ≡ Some (entry (code.k * code.m) w p (code.k * code.m)))
@@ -84,7 +84,8 @@ pub record TookAll (F : Operations) (code : Code) (cells : List (Option ℕ)) (k
   pub reduced : Reduced F (code.k * code.m) B
   pub known_rows : KnownRows (code.k * code.m) known B
   pub solutions : (y : ℕ → Symbols) → Factors F code y → (u : ℕ → ℕ) → Vector F code u
-      → ((Solution F (code.k * code.m) A u × ((x : ℕ) → x < count → Meets F code y cells u x)) ↔ Solution F (code.k * code.m) B u)
+      → ((Solution F (code.k * code.m) A u × ((x : ℕ) → x < count → Meets F code y cells u x))
+      ↔ Solution F (code.k * code.m) B u)
 
 -- no solution meets all cells
 abbrev pub Contradicts : Operations → Code → List (Option ℕ) → (ℕ → ℕ → ℕ) → Type 0

@@ -19,7 +19,8 @@ NoForeign F code held = (j c : ℕ) → Inside code j c → ForeignAt F held j c
 pub record Complete (F : Operations) (code : Code) (cells : List (Option ℕ)) (w : List ℕ) : Type 0 where
   pub reduced : Reduced F (code.k * code.m) (entry (code.k * code.m) w)
   pub solutions : (y : ℕ → Symbols) → Factors F code y → (u : ℕ → ℕ) → Vector F code u
-      → (Solution F (code.k * code.m) (entry (code.k * code.m) w) u ↔ ((x : ℕ) → x < cell_count code → Meets F code y cells u x))
+      → (Solution F (code.k * code.m) (entry (code.k * code.m) w) u
+      ↔ ((x : ℕ) → x < cell_count code → Meets F code y cells u x))
 
 -- no vector meets all listed cells
 abbrev pub NoneMeets : Operations → Code → List (Option ℕ) → Type 0
@@ -60,7 +61,8 @@ Lone N A p None = (A p p ≡ 0) ⊎ ((c : ℕ) × (c < N) × (c ≢ p) × (A p c
 
 -- two fitting files differ at the place
 abbrev pub DifferAt : Operations → Code → Held → ℕ → Type 0
-DifferAt F code held place = (u v : List ℕ) × Fits F code held u × Fits F code held v × (slice_index u place ≢ slice_index v place)
+DifferAt F code held place =
+    (u v : List ℕ) × Fits F code held u × Fits F code held v × (slice_index u place ≢ slice_index v place)
 
 -- What deciding a place answers: the symbol that all fitting files share there, or why there is none.
 abbrev pub Decided : Operations → Code → Held → ℕ → Result ℕ Refusal → Type 0

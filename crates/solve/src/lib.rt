@@ -57,9 +57,10 @@ pub fn shared_symbol<F: Field, S: Store>(
     decide::<F, S>(code, store, place, &mut work[..size])
 }
 
-/// Leaves the only fitting file in the first k·m numbers of the work memory, and returns k·m. Declined with 4, 7 and 9
-/// as above, and with 10 if two different files fit. Declined with 4, the work memory is as it was; otherwise the rest
-/// of its first k·m·(k·m + 1) numbers, and all of them if declined, are zeros afterwards, and those behind are kept.
+/// Leaves the only fitting file in the first k·m numbers of the work memory, and returns k·m. Declined with 4 if the
+/// work memory is below k·m·(k·m + 1) numbers, with 7 for the first present cell that is no symbol, with 9 if no file
+/// fits, and with 10 if two different files fit. Declined with 4, the work memory is as it was; otherwise the first
+/// k·m·(k·m + 1) numbers, behind the file if there is one, are zeros afterwards, and those behind them are kept.
 pub fn only_file<F: Field, S: Store>(
     code: &Code,
     store: &S,

@@ -10,6 +10,10 @@ use field::Field;
 
 // n equations in lent memory, one after the other: the n factors of each, and then its right side. That the form is
 // reduced, and which symbols are known, stands in the clauses and not here: while an equation goes in it does not hold.
+// The marks of the known symbols, in a fixed array since nothing allocates, lie beside the equations: as a field, each
+// method that writes would have to promise that they stay. That n and the memory stay is two equalities, which each
+// caller reads by name. A row to be taken up is lent by the caller and changes as symbols are taken out of it, so that
+// its length and the bound of its numbers are clauses, too.
 #[derive(Drop)]
 pub(crate) struct Equations<'w> {
     pub(crate) numbers: &'w mut [u32],
