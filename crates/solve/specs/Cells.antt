@@ -1,5 +1,6 @@
 -- The cells that are present, and which vectors of symbols agree with them.
-use Rattle.std.specs.Prelude.{◌≡◌, ℕ, ◌+◌, ◌*◌, ◌/◌, ◌%◌, ◌<◌, Bool, false, ◌⊎◌, ◌↔◌, List, Some, None, Ok, Err, Option, Result, ◌≢◌, slice_index_or}
+use Rattle.std.specs.Prelude.{◌≡◌, ℕ, ◌+◌, ◌*◌, ◌/◌, ◌%◌, ◌<◌, ◌⊎◌, ◌↔◌, ◌≢◌}
+use Rattle.std.specs.Prelude.{Bool, false, List, Some, None, Ok, Err, Option, Result, slice_index_or}
 use Rattle.field.specs.Laws.{Operations}
 use Rattle.algebra.specs.Sums.{sum}
 use Rattle.code.specs.declared.record.Code.{Code}

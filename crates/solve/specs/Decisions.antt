@@ -1,9 +1,10 @@
 -- What the inner functions of the solver answer.
-use Rattle.std.specs.Prelude.{◌≡◌, ℕ, ◌*◌, ◌<◌, ◌≤◌, ◌⊎◌, ◌↔◌, List, Some, None, Ok, Err, Option, Result, ◌≢◌, slice_index}
+use Rattle.std.specs.Prelude.{◌≡◌, ℕ, ◌*◌, ◌<◌, ◌≤◌, ◌⊎◌, ◌↔◌, ◌≢◌}
+use Rattle.std.specs.Prelude.{List, Some, None, Ok, Err, Option, Result, slice_index}
 use Rattle.field.specs.Laws.{Operations}
 use Rattle.code.specs.declared.record.Code.{Code}
 use Rattle.code.specs.declared.refusal.Refusal.{Refusal}
-use Rattle.code.specs.declared.refusal.Refusal.TheVariants.{Bounds, Shape, Length, Work, Outside, Symbol, Foreign, Lost, Contradiction, Ambiguous, Allowance}
+use Rattle.code.specs.declared.refusal.Refusal.TheVariants.{Foreign, Contradiction, Ambiguous}
 use Rattle.code.specs.Stripe.{Symbols, Held, IsFile, Fits}
 use Rattle.solve.specs.Systems.{entry, Solution, Reduced}
 use Rattle.code.specs.Held.{Inside, ForeignAt, First}
@@ -37,17 +38,10 @@ pub record FitsSolve (F : Operations) (code : Code) (held : Held) (w : List ℕ)
 
 -- Why there is no answer: the first foreign cell, that no file fits, or an ambiguity.
 abbrev pub Fails : Operations → Code → Held → Type 0 → Refusal → Type 0
-Fails F code held Open Bounds = ⊥
-Fails F code held Open Shape = ⊥
-Fails F code held Open Length = ⊥
-Fails F code held Open Work = ⊥
-Fails F code held Open Outside = ⊥
-Fails F code held Open Symbol = ⊥
 Fails F code held Open (Foreign v c) = First (Inside code) (ForeignAt F held) v c
-Fails F code held Open (Lost v c) = ⊥
 Fails F code held Open Contradiction = NoForeign F code held × ((u : List ℕ) → Fits F code held u → ⊥)
 Fails F code held Open Ambiguous = NoForeign F code held × Open
-Fails F code held Open Allowance = ⊥
+Fails F code held Open _ = ⊥
 
 -- What building the system answers: the fitting files are its solutions, or why there is no system.
 abbrev pub Built : {U : Type 0} → Operations → Code → Held → List ℕ → Result U Refusal → Type 0

@@ -1,5 +1,6 @@
 -- Systems of linear equations: N equations, each with N factors and a right side.
-use Rattle.std.specs.Prelude.{◌≡◌, ℕ, ◌+◌, ◌*◌, ◌<◌, Bool, true, false, ◌⊎◌, ◌↔◌, List, Some, None, Ok, Err, Option, Result, ◌≢◌, slice_index, slice_index_or}
+use Rattle.std.specs.Prelude.{◌≡◌, ℕ, ◌+◌, ◌*◌, ◌<◌, ◌⊎◌, ◌↔◌, ◌≢◌}
+use Rattle.std.specs.Prelude.{Bool, true, false, List, Some, None, Ok, Err, Option, Result, slice_index, slice_index_or}
 use Rattle.field.specs.Laws.{Operations}
 use Rattle.algebra.specs.Sums.{sum}
 use Rattle.code.specs.declared.refusal.Refusal.{Refusal}

@@ -1,4 +1,4 @@
-use Rattle.std.proofs.Common.{◌<◌, [], inl, inr, arith, length-set, get_or-set_same, get_or-set_other, ◌∙◌}
+use Rattle.std.proofs.Common.{[], inl, inr, arith, length-set, get_or-set_same, get_or-set_other, ◌∙◌}
 use Rattle.std.proofs.lemmas.Bool.{cases_eq}
 use Rattle.solve.proofs.factors.column_table.Goals as goal
 

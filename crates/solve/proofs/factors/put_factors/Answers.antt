@@ -1,4 +1,4 @@
-use Rattle.std.proofs.Common.{◌≡◌, ℕ, ◌+◌, ◌*◌, ◌<◌, [], get_or, take, ap, arith}
+use Rattle.std.proofs.Common.{◌≡◌, ℕ, ◌*◌, ◌<◌, [], get_or, take, ap, arith}
 use Rattle.std.proofs.lemmas.List.{get_or-take}
 use Rattle.code.proofs.Places.{place_below}
 use Rattle.solve.proofs.UnitFiles.{factor_step}

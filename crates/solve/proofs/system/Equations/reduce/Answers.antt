@@ -1,4 +1,4 @@
-use Rattle.std.proofs.Common.{ℕ, ◌+◌, ◌<◌, get_or, inl, inr, arith}
+use Rattle.std.proofs.Common.{ℕ, get_or, inl, inr, arith}
 use Rattle.solve.specs.Systems.{entry}
 use Rattle.solve.proofs.Steps.{remainder_skip, remainder_take}
 use Rattle.solve.proofs.system.Equations.reduce.Goals as goal
