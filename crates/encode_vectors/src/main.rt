@@ -1,18 +1,31 @@
 // Tries the encoder on worked values, and recomputes both rules on what it writes by plain loops of its own.
+// These share nothing with the encoder, nor with the slow one of encode_bench. Refusals are printed by number.
 #![tactic(auto)]
 
-use code::{Code, MOST_CELLS};
+use code::{Code, MOST_CELLS, Refusal};
 use encode::encode;
 use field::{Bytes, Field, Prime};
-use std::io;
+use std::{fmt, io};
 use trial::{Tally, fill_file};
 
 // What stands in the memory before a call.
 const MARK: u16 = 7777;
 
-// What stands for a cell that is not there: no field here has it as a symbol. A number and no Option, since
-// what is expected is a number too, and a cell that is not there has to count as a difference.
-const NONE: u16 = 65535;
+// The numbers n, k, m and a of a code, as they are printed.
+#[derive(Clone, Copy)]
+struct Numbers(usize, usize, usize, usize);
+
+impl Numbers {
+    fn code(&self) -> Result<Code, Refusal> {
+        Code::new(self.0, self.1, self.2, self.3)
+    }
+}
+
+impl fmt::Display for Numbers {
+    fn fmt<W: fmt::Write>(&self, f: &mut fmt::Formatter<W>) -> fmt::Result {
+        write!(f, "n {}, k {}, m {}, a {}", self.0, self.1, self.2, self.3)
+    }
+}
 
 // u^e by e products.
 fn slow_power<F: Field>(u: u16, e: usize) -> u16 {
@@ -24,71 +37,79 @@ fn weight<F: Field>(i: usize, e: usize) -> u16 {
     slow_power::<F>(slow_power::<F>(F::GENERATOR, i), e)
 }
 
-// The number that stands at cell (j, c).
-fn cell(code: &Code, cells: &[u16], j: usize, c: usize) -> u16 {
-    cells
-        .chunks_exact(code.columns())
-        .nth(j)
-        .and_then(|row| row.get(c))
-        .copied()
-        .unwrap_or(NONE)
+// A code, and a memory that begins with the cells of a stripe of it, node by node.
+#[derive(Clone, Copy)]
+struct Stripe<'a> {
+    code: &'a Code,
+    cells: &'a [u16],
 }
 
-// What the column rule wants to be 0 for column t and i.
-fn column_sum<F: Field>(code: &Code, cells: &[u16], t: usize, i: usize) -> u16 {
-    (0..code.nodes()).fold(0, |sum, j| {
-        F::sum(sum, F::product(weight::<F>(i, j), cell(code, cells, j, t)))
-    })
-}
-
-// The sum over the data columns t of α^(i·t) · x(⟨j − t − 1⟩, t).
-fn group_sum<F: Field>(code: &Code, cells: &[u16], j: usize, i: usize) -> u16 {
-    let behind = (0..j).rev().chain((j..code.nodes()).rev());
-    let mut sum = 0;
-    for (t, node) in (0..code.data_columns()).zip(behind) {
-        sum = F::sum(
-            sum,
-            F::product(weight::<F>(i, t), cell(code, cells, node, t)),
-        );
+impl Stripe<'_> {
+    // The number that stands at cell (j, c), if there is such a cell.
+    fn cell(&self, j: usize, c: usize) -> Option<u16> {
+        let row = self.cells.chunks_exact(self.code.columns()).nth(j)?;
+        row.get(c).copied()
     }
-    sum
-}
 
-// Every sum of the column rule against 0.
-fn compare_columns<F: Field>(code: &Code, cells: &[u16]) -> Tally {
-    let mut tally = Tally::new();
-    for t in 0..code.data_columns() {
-        for i in 0..code.parity_nodes() {
-            tally.compare(column_sum::<F>(code, cells, t, i), 0);
+    // What the column rule wants to be 0 for column t and i.
+    fn column_sum<F: Field>(&self, t: usize, i: usize) -> u16 {
+        (0..self.code.nodes()).fold(0, |sum, j| {
+            F::sum(
+                sum,
+                F::product(weight::<F>(i, j), self.cell(j, t).unwrap_or(0)),
+            )
+        })
+    }
+
+    // The sum over the data columns t of α^(i·t) · x(⟨j − t − 1⟩, t).
+    fn group_sum<F: Field>(&self, j: usize, i: usize) -> u16 {
+        let behind = (0..j).rev().chain((j..self.code.nodes()).rev());
+        (0..self.code.data_columns())
+            .zip(behind)
+            .fold(0, |sum, (t, node)| {
+                F::sum(
+                    sum,
+                    F::product(weight::<F>(i, t), self.cell(node, t).unwrap_or(0)),
+                )
+            })
+    }
+
+    // Every sum of the column rule against 0.
+    fn compare_columns<F: Field>(&self) -> Tally {
+        let mut tally = Tally::new();
+        for t in 0..self.code.data_columns() {
+            for i in 0..self.code.parity_nodes() {
+                tally.compare(self.column_sum::<F>(t, i), 0);
+            }
         }
+        tally
     }
-    tally
-}
 
-// Every coded cell against the sum of its group: the i-th of node ⟨j + i⟩ against that of node j.
-fn compare_groups<F: Field>(code: &Code, cells: &[u16]) -> Tally {
-    let mut tally = Tally::new();
-    for j in 0..code.nodes() {
-        let ahead = (j..code.nodes()).chain(0..j);
-        let columns = code.data_columns()..code.columns();
-        for (i, (node, column)) in ahead.zip(columns).enumerate() {
-            let coded = cell(code, cells, node, column);
-            tally.compare(coded, group_sum::<F>(code, cells, j, i));
+    // Every coded cell against the sum of its group: the i-th of node ⟨j + i⟩ against that of node j.
+    fn compare_groups<F: Field>(&self) -> Tally {
+        let code = self.code;
+        let mut tally = Tally::new();
+        for j in 0..code.nodes() {
+            let ahead = (j..code.nodes()).chain(0..j);
+            let columns = code.data_columns()..code.columns();
+            for (i, (node, column)) in ahead.zip(columns).enumerate() {
+                tally.compare(self.cell(node, column), Some(self.group_sum::<F>(j, i)));
+            }
         }
+        tally
     }
-    tally
-}
 
-// The symbols of the file against the first k nodes.
-fn compare_data(code: &Code, file: &[u16], cells: &[u16]) -> Tally {
-    let mut tally = Tally::new();
-    let rows = cells.chunks_exact(code.columns());
-    for (symbols, row) in file.chunks_exact(code.data_columns()).zip(rows) {
-        for (symbol, cell) in symbols.iter().zip(row) {
-            tally.compare(*cell, *symbol);
+    // The symbols of the file against the first k nodes.
+    fn compare_data(&self, file: &[u16]) -> Tally {
+        let mut tally = Tally::new();
+        let rows = self.cells.chunks_exact(self.code.columns());
+        for (symbols, row) in file.chunks_exact(self.code.data_columns()).zip(rows) {
+            for (symbol, cell) in symbols.iter().zip(row) {
+                tally.compare(*cell, *symbol);
+            }
         }
+        tally
     }
-    tally
 }
 
 // The numbers behind so many cells against the 7,777 that stood there.
@@ -106,7 +127,15 @@ fn try_code<F: Field>(rt: &HostRuntime, code: &Code) -> io::Result<()> {
     fill_file::<F>(&mut file);
     let mut cells = vec![in rt.alloc(); MARK; MOST_CELLS]?;
     match encode::<F>(code, &file, &mut cells) {
-        Ok(count) => print_rules::<F>(rt, code, &file, &cells, count),
+        Ok(count) => print_rules::<F>(
+            rt,
+            Stripe {
+                code,
+                cells: &cells,
+            },
+            &file,
+            count,
+        ),
         Err(e) => println!(rt; "    refusal {}.", e.number()),
     }
 }
@@ -114,28 +143,27 @@ fn try_code<F: Field>(rt: &HostRuntime, code: &Code) -> io::Result<()> {
 // What the encoder has written for a file, against the two rules.
 fn print_rules<F: Field>(
     rt: &HostRuntime,
-    code: &Code,
+    stripe: Stripe,
     file: &[u16],
-    cells: &[u16],
     count: usize,
 ) -> io::Result<()> {
     let length = file.len();
     println!(rt; "    the file of {length} symbols takes {count} cells.")?;
     println!(rt;
         "    the file in the first k nodes: {}",
-        compare_data(code, file, cells)
+        stripe.compare_data(file)
     )?;
     println!(rt;
         "    sums of the column rule: {}",
-        compare_columns::<F>(code, cells)
+        stripe.compare_columns::<F>()
     )?;
     println!(rt;
         "    coded cells and their groups: {}",
-        compare_groups::<F>(code, cells)
+        stripe.compare_groups::<F>()
     )?;
     println!(rt;
         "    numbers behind the cells: {}",
-        compare_rest(count, cells)
+        compare_rest(count, stripe.cells)
     )
 }
 
@@ -218,16 +246,16 @@ fn print_answers<F: Field>(rt: &HostRuntime) -> io::Result<()> {
 // Which numbers make a code.
 fn print_codes(rt: &HostRuntime) -> io::Result<()> {
     println!(rt; "Which numbers make a code:")?;
-    for (n, k, m, a) in [
-        (64, 63, 8, 3),
-        (65, 63, 8, 3),
-        (3, 1, 2, 1),
-        (3, 2, 2, 1),
-        (3, 2, 2, 2),
+    for numbers in [
+        Numbers(64, 63, 8, 3),
+        Numbers(65, 63, 8, 3),
+        Numbers(3, 1, 2, 1),
+        Numbers(3, 2, 2, 1),
+        Numbers(3, 2, 2, 2),
     ] {
-        match Code::new(n, k, m, a) {
-            Ok(_) => println!(rt; "  n {n}, k {k}, m {m}, a {a}: a code.")?,
-            Err(e) => println!(rt; "  n {n}, k {k}, m {m}, a {a}: refusal {}.", e.number())?,
+        match numbers.code() {
+            Ok(_) => println!(rt; "  {numbers}: a code.")?,
+            Err(e) => println!(rt; "  {numbers}: refusal {}.", e.number())?,
         }
     }
     Ok(())
@@ -238,22 +266,19 @@ fn print_field<F: Field>(rt: &HostRuntime) -> io::Result<()> {
     print_worked::<F>(rt)?;
     print_answers::<F>(rt)?;
     println!(rt; "  Compared with loops that share no code with the encoder:")?;
-    for (n, k, m, a) in [
-        (64, 63, 8, 3),
-        (64, 20, 8, 3),
-        (12, 1, 3, 2),
-        (11, 7, 8, 3),
-        (2, 1, 1, 1),
+    for numbers in [
+        Numbers(64, 63, 8, 3),
+        Numbers(64, 20, 8, 3),
+        Numbers(12, 1, 3, 2),
+        Numbers(11, 7, 8, 3),
+        Numbers(2, 1, 1, 1),
     ] {
-        match Code::new(n, k, m, a) {
+        match numbers.code() {
             Ok(code) => {
-                println!(rt; "  n {n}, k {k}, m {m}, a {a}:")?;
+                println!(rt; "  {numbers}:")?;
                 try_code::<F>(rt, &code)?;
             }
-            Err(e) => println!(rt;
-                "  n {n}, k {k}, m {m}, a {a}: no code, refusal {}.",
-                e.number()
-            )?,
+            Err(e) => println!(rt; "  {numbers}: no code, refusal {}.", e.number())?,
         }
     }
     Ok(())
