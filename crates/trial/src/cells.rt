@@ -20,12 +20,14 @@ fn unit_stripes<F: Field>(alloc: Global, code: &Code) -> Result<Vec<u16>, AllocE
         if let Some(symbol) = file.get_mut(p) {
             *symbol = 1;
         }
+        // never declined: the file and the stripe have the code's lengths, and 0 and 1 are symbols
         let _ = encode::<F>(code, &file, stripe);
     }
     Ok(stripes)
 }
 
-// An equation for each present cell: the factors of the symbols in it, and what it holds.
+// An equation for each present cell: the factors of the symbols in it, and what it holds. The numbers lie as a
+// grid holds them, and there a cell is lost whose number is no u16.
 fn equations_of<F: Field>(
     alloc: Global,
     code: &Code,
@@ -45,10 +47,11 @@ fn equations_of<F: Field>(
     Ok(equations)
 }
 
-/// Solves for what the cells hold, cell (j, c) at j·(m + a) + c; a number above 65,535 stands for a lost
-/// cell, and cells that are not there are lost. Refused with 7, and the first such cell, where a present cell
-/// holds no symbol of the field, and with 9 where an equation without factors is left whose right side is not
-/// 0. That the equations keep their solutions on the way is not stated: the programs try it.
+/// Solves for what the cells hold, cell (j, c) at j·(m + a) + c, as the numbers of a grid lie: a number above
+/// 65,535 stands for a lost cell, and cells that are not there are lost. Refused with 7, and the first such
+/// cell, where a present cell holds no symbol of the field, and with 9 where an equation without factors is left
+/// whose right side is not 0. That the equations keep their solutions on the way is not stated: the programs try
+/// it. The outer Err is want of memory, which is no refusal: callers hand it on by `?` and compare the inner one.
 pub fn solve_cells<F: Field>(
     alloc: Global,
     code: &Code,

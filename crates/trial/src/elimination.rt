@@ -9,13 +9,14 @@ use field::Field;
 /// Equations after the elimination of their unknowns, as far as they go.
 #[derive(Debug, Drop)]
 pub struct Solved {
-    // for each equation the factors of the unknowns, and behind them the right side
+    // For each equation the factors of the unknowns, and behind them the right side. One Vec of numbers and no
+    // Vec of rows: no plainer, since rows would need their widths stated, and their memory asked for, one by one.
     numbers: Vec<u16>,
     unknowns: usize,
     // How many of the first equations were taken for an unknown each. The code makes its factor 1 there and
     // 0 in all others, and leaves no factor in the equations behind these; no clause says so.
     rank: usize,
-    // how many equations there are
+    // how many equations there are; a field, since the clauses name it
     count: usize,
     ghost few: { unknowns < 65536 },
     ghost whole: { count * (unknowns + 1) ≤ length numbers.items },
@@ -42,7 +43,7 @@ pub fn eliminate<F: Field>(mut numbers: Vec<u16>, unknowns: usize) -> Solved
     }
 }
 
-// The same on the numbers. Returns how many equations were taken for an unknown.
+// Eliminates the unknowns from the equations where they stand. Returns how many were taken for an unknown.
 fn take_unknowns<F: Field>(numbers: &mut [u16], unknowns: usize) -> usize
     requires { unknowns < 65536 }
     ensures long { length numbers.new ≡ length numbers.old }
@@ -112,7 +113,7 @@ fn scale<F: Field>(row: &mut [u16]) {
     }
 }
 
-// Takes the pivot's row from another as often as clears its first number.
+// Subtracts from a row the multiple of the pivot's row that makes its first number 0.
 fn clear<F: Field>(row: &mut [u16], pivot: &[u16]) {
     let Some(first) = row.first() else { return };
     let factor = *first;
@@ -166,7 +167,7 @@ impl Solved {
             && only_at(&self.numbers[at..at + self.unknowns], p)
     }
 
-    // The first equation behind those taken, so one without factors, whose right side is not 0.
+    // The first equation behind those taken whose right side is not 0. The elimination leaves no factor there.
     pub(crate) fn contradiction(&self) -> Option<usize>
         ensures { MatchOption result
             (Consistent self.now.unknowns self.now.numbers.items self.now.rank self.now.count)

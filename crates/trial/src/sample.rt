@@ -13,6 +13,7 @@ pub fn fill_file<F: Field>(file: &mut [u16])
     let mut state = 1u32;
     for symbol in file {
         state = (state * 75 + 74) % 65537;
+        // below F::SIZE, at most 257, so the cast loses nothing
         *symbol = (state % F::SIZE) as u16;
     }
 }
