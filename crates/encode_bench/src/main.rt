@@ -14,99 +14,106 @@ use trial::{eliminate, fill_file};
 // How often each encoder runs.
 const TURNS: u32 = 20;
 
-// The place of cell (j, c) in the memory.
-fn place(code: &Code, j: usize, c: usize) -> usize {
-    j.saturating_mul(code.columns()).saturating_add(c)
+// A code, and a memory in which the straightforward encoder writes a stripe of it.
+#[derive(Drop)]
+struct Stripe<'a> {
+    code: &'a Code,
+    cells: &'a mut [u16],
 }
 
-// What the data nodes leave of 0 in the i-th sum of data column t.
-fn right_side<F: Field>(code: &Code, cells: &[u16], t: usize, i: usize) -> u16 {
-    let rows = cells.chunks_exact(code.columns()).take(code.data_nodes());
-    let mut sum = 0;
-    for (j, row) in rows.enumerate() {
-        let weight = power::<F>(F::GENERATOR, i.saturating_mul(j));
-        sum = F::sum(sum, F::product(weight, row.get(t).copied().unwrap_or(0)));
+impl Stripe<'_> {
+    // The place of cell (j, c) in the memory.
+    fn place(&self, j: usize, c: usize) -> usize {
+        j.saturating_mul(self.code.columns()).saturating_add(c)
     }
-    F::difference(0, sum)
-}
 
-// The equations of data column t: the i-th is the sum over the parity nodes v of α^(i·v) · x(v, t), and
-// what the data nodes leave of 0.
-fn equations<F: Field>(
-    alloc: Global,
-    code: &Code,
-    cells: &[u16],
-    t: usize,
-) -> Result<Vec<u16>, AllocError> {
-    let r = code.parity_nodes();
-    let mut numbers = Vec::with_capacity(alloc, r * (r + 1))?;
-    for i in 0..r {
-        for v in code.data_nodes()..code.nodes() {
-            numbers.push(power::<F>(F::GENERATOR, i.saturating_mul(v)))?;
+    // What the data nodes leave of 0 in the i-th sum of data column t.
+    fn right_side<F: Field>(&self, t: usize, i: usize) -> u16 {
+        let rows = self
+            .cells
+            .chunks_exact(self.code.columns())
+            .take(self.code.data_nodes());
+        let sum = rows.enumerate().fold(0, |sum, (j, row)| {
+            let weight = power::<F>(F::GENERATOR, i.saturating_mul(j));
+            F::sum(sum, F::product(weight, row.get(t).copied().unwrap_or(0)))
+        });
+        F::difference(0, sum)
+    }
+
+    // The equations of data column t: the i-th is the sum over the parity nodes v of α^(i·v) · x(v, t), and
+    // what the data nodes leave of 0.
+    fn equations<F: Field>(&self, alloc: Global, t: usize) -> Result<Vec<u16>, AllocError> {
+        let r = self.code.parity_nodes();
+        let mut numbers = Vec::with_capacity(alloc, r * (r + 1))?;
+        for i in 0..r {
+            for v in self.code.data_nodes()..self.code.nodes() {
+                numbers.push(power::<F>(F::GENERATOR, i.saturating_mul(v)))?;
+            }
+            numbers.push(self.right_side::<F>(t, i))?;
         }
-        numbers.push(right_side::<F>(code, cells, t, i))?;
+        Ok(numbers)
     }
-    Ok(numbers)
-}
 
-// The sum of the group of node j for coded column i.
-fn group_sum<F: Field>(code: &Code, cells: &[u16], j: usize, i: usize) -> u16 {
-    let mut sum = 0;
-    for t in 0..code.data_columns() {
-        let weight = power::<F>(F::GENERATOR, i.saturating_mul(t));
-        let at = place(code, code.behind(j, t + 1), t);
-        sum = F::sum(sum, F::product(weight, cells.get(at).copied().unwrap_or(0)));
+    // The sum of the group of node j for coded column i.
+    fn group_sum<F: Field>(&self, j: usize, i: usize) -> u16 {
+        (0..self.code.data_columns()).fold(0, |sum, t| {
+            let weight = power::<F>(F::GENERATOR, i.saturating_mul(t));
+            let at = self.place(self.code.behind(j, t + 1), t);
+            F::sum(
+                sum,
+                F::product(weight, self.cells.get(at).copied().unwrap_or(0)),
+            )
+        })
     }
-    sum
-}
 
-// The coded cells, each from the sum of its group. By places and not by rows, since the cells that are read
-// and the one that is written lie in different rows of the same memory.
-fn fill_groups<F: Field>(code: &Code, cells: &mut [u16]) {
-    for j in 0..code.nodes() {
-        for i in 0..code.coded_columns() {
-            let sum = group_sum::<F>(code, cells, j, i);
-            let at = place(code, code.ahead(j, i), code.data_columns() + i);
-            if let Some(x) = cells.get_mut(at) {
-                *x = sum;
+    // The coded cells, each from the sum of its group. By places and not by rows, since the cells that are
+    // read and the one that is written lie in different rows of the same memory.
+    fn fill_groups<F: Field>(&mut self) {
+        let code = self.code;
+        for j in 0..code.nodes() {
+            for i in 0..code.coded_columns() {
+                let sum = self.group_sum::<F>(j, i);
+                let at = self.place(code.ahead(j, i), code.data_columns() + i);
+                if let Some(x) = self.cells.get_mut(at) {
+                    *x = sum;
+                }
             }
         }
     }
-}
 
-// The symbols of the file, in the data columns of the data nodes.
-fn fill_data(code: &Code, file: &[u16], cells: &mut [u16]) {
-    let rows = cells.chunks_exact_mut(code.columns());
-    for (row, symbols) in rows.zip(file.chunks_exact(code.data_columns())) {
-        for (x, symbol) in row.iter_mut().zip(symbols) {
-            *x = *symbol;
-        }
-    }
-}
-
-// The straightforward encoder.
-fn encode_by_elimination<F: Field>(
-    alloc: Global,
-    code: &Code,
-    file: &[u16],
-    cells: &mut [u16],
-) -> Result<(), AllocError> {
-    fill_data(code, file, cells);
-    for t in 0..code.data_columns() {
-        let equations = equations::<F>(alloc, code, cells, t)?;
-        let solved = eliminate::<F>(equations, code.parity_nodes());
-        let rows = cells.chunks_exact_mut(code.columns());
-        for (v, row) in rows.skip(code.data_nodes()).enumerate() {
-            if let (Some(x), Some(symbol)) = (row.get_mut(t), solved.unknown(v)) {
-                *x = symbol;
+    // The symbols of the file, in the data columns of the data nodes.
+    fn fill_data(&mut self, file: &[u16]) {
+        let data_columns = self.code.data_columns();
+        let rows = self.cells.chunks_exact_mut(self.code.columns());
+        for (row, symbols) in rows.zip(file.chunks_exact(data_columns)) {
+            if let Some(data) = row.get_mut(..data_columns) {
+                data.copy_from_slice(symbols);
             }
         }
     }
-    fill_groups::<F>(code, cells);
-    Ok(())
+
+    // The straightforward encoder.
+    fn encode<F: Field>(&mut self, alloc: Global, file: &[u16]) -> Result<(), AllocError> {
+        let code = self.code;
+        self.fill_data(file);
+        for t in 0..code.data_columns() {
+            let equations = self.equations::<F>(alloc, t)?;
+            let solved = eliminate::<F>(equations, code.parity_nodes());
+            let (columns, data_nodes) = (code.columns(), code.data_nodes());
+            let rows = self.cells.chunks_exact_mut(columns);
+            for (v, row) in rows.skip(data_nodes).enumerate() {
+                if let (Some(x), Some(symbol)) = (row.get_mut(t), solved.unknown(v)) {
+                    *x = symbol;
+                }
+            }
+        }
+        self.fill_groups::<F>();
+        Ok(())
+    }
 }
 
-// How long an encoder takes for all its turns.
+// How long an encoder takes for all its turns. Not the fastest turn, as in solve_bench: here a turn is so short
+// that the clock would show little of it, there one takes long and other work of the machine disturbs it.
 fn time_turns<E: FnMut() -> Result<(), AllocError>>(
     rt: &HostRuntime,
     mut encoder: E,
@@ -120,7 +127,8 @@ fn time_turns<E: FnMut() -> Result<(), AllocError>>(
     start.elapsed(rt)
 }
 
-// How long a file takes, and how many times as long the straightforward encoder takes.
+// How long a file takes, and how many times as long the straightforward encoder takes. solve_bench prints the
+// same ratio with words of its own around it.
 fn print_ratio(rt: &HostRuntime, field: &str, slow: Duration, fast: Duration) -> io::Result<()> {
     let tenths = slow.as_nanos().saturating_mul(10) / fast.as_nanos().max(1);
     let micros = fast.as_micros() / u128::from(TURNS);
@@ -138,12 +146,17 @@ fn run_both<F: Field>(rt: &HostRuntime, code: &Code, field: &str) -> io::Result<
     fill_file::<F>(&mut file);
     let mut cells = vec![in alloc; 0u16; MOST_CELLS]?;
     let mut expected = vec![in alloc; 0u16; MOST_CELLS]?;
+    // The encoder declines nothing here: the file has the code's length and symbols only, and the memory room.
     let fast = time_turns(rt, || {
         let _ = encode::<F>(code, &file, &mut cells);
         Ok(())
     })?;
     let slow = time_turns(rt, || {
-        encode_by_elimination::<F>(alloc, code, &file, &mut expected)
+        Stripe {
+            code,
+            cells: &mut expected,
+        }
+        .encode::<F>(alloc, &file)
     })?;
     let differing = cells
         .iter()
@@ -164,13 +177,15 @@ fn main(rt: HostRuntime) -> io::Result<()> {
         (64, 16, 8, 3),
         (18, 15, 2, 1),
     ] {
-        println!(rt; "  n {n}, k {k}, m {m}, a {a}:")?;
-        eprintln!(rt; "  n {n}, k {k}, m {m}, a {a}:")?;
+        let title = format!(in rt.alloc(); "n {n}, k {k}, m {m}, a {a}")?;
+        println!(rt; "  {title}:")?;
+        eprintln!(rt; "  {title}:")?;
         match Code::new(n, k, m, a) {
             Ok(code) => {
                 run_both::<Prime>(&rt, &code, "prime")?;
                 run_both::<Bytes>(&rt, &code, "bytes")?;
             }
+            // By number, as all output here that is compared with what was stored.
             Err(e) => println!(rt; "    no code, refusal {}.", e.number())?,
         }
     }
