@@ -1,4 +1,5 @@
-// Tries the solver on worked values, and compares it with a slow elimination of its own on many random cells.
+// Tries the solver on worked values, and compares it on many random cells with the slow elimination of crate
+// trial. Refusals are printed by number.
 #![tactic(auto)]
 
 ghost use Rattle.std.specs.Prelude.{◌<◌};
@@ -21,7 +22,7 @@ const CELLS: usize = 64;
 
 const WORK: usize = 450;
 
-// What stands for a lost cell, and what stands in the work memory before a call.
+// The mark of a lost cell in a grid (see store), and what stands in the work memory before a call.
 const LOST: u32 = u32::MAX;
 
 const MARK: u32 = 7777;
@@ -53,16 +54,21 @@ fn code_of((n, k, m, a): (usize, usize, usize, usize)) -> io::Result<Code> {
     Code::new(n, k, m, a).map_err(|_| io::Error::other("no code"))
 }
 
-// Writes a number into the cell at a node and a column.
-fn set_cell(code: &Code, held: &mut [u32], node: usize, column: usize, x: u32) {
-    let row = held.chunks_exact_mut(code.columns()).nth(node);
-    if let Some(number) = row.and_then(|row| row.get_mut(column)) {
-        *number = x;
-    }
+// The number that a grid over these holds for the cell at a node and a column, if there is such a cell.
+fn cell_mut<'a>(
+    code: &Code,
+    held: &'a mut [u32],
+    node: usize,
+    column: usize,
+) -> Option<&'a mut u32> {
+    let row = held.chunks_exact_mut(code.columns()).nth(node)?;
+    row.get_mut(column)
 }
 
-// The stripe of a file where a grid holds its cells, and zeros behind it.
-fn stripe<F: Field>(code: &Code, file: &[u16]) -> [u32; CELLS] {
+// The stripe of the file at the front of these symbols where a grid holds its cells, and zeros behind it. The
+// encoder declines nothing here: the file has the code's length and symbols only, and the memory room.
+fn stripe<F: Field>(code: &Code, symbols: &[u16; SYMBOLS]) -> [u32; CELLS] {
+    let file = &symbols[..code.file_length().min(SYMBOLS)];
     let mut cells = [0u16; CELLS];
     let _ = encode::<F>(code, file, &mut cells);
     cells.map(u32::from)
@@ -129,13 +135,13 @@ fn print_file<F: Field>(rt: &HostRuntime, code: &Code, held: &mut [u32]) -> io::
     }
 }
 
-// The stripe of the file 1, 2, 3 and so on.
+// The file 1, 2, 3 and so on, and the stripe of it.
+const COUNTED: [u16; SYMBOLS] = [
+    1, 2, 3, 4, 5, 6, 7, 8, 9, 10, 11, 12, 13, 14, 15, 16, 17, 18, 19, 20,
+];
+
 fn counted_stripe<F: Field>(code: &Code) -> [u32; CELLS] {
-    let mut file = [0u16; SYMBOLS];
-    for (symbol, next) in file.iter_mut().zip(1..) {
-        *symbol = next;
-    }
-    stripe::<F>(code, &file[..code.file_length().min(SYMBOLS)])
+    stripe::<F>(code, &COUNTED)
 }
 
 // What is known of cells, under a line that says what they are.
@@ -150,19 +156,15 @@ fn print_known<F: Field>(
     print_file::<F>(rt, code, held)
 }
 
-// What is known of the file 1, 2, 3 and so on, or of a file of zeros, without some nodes.
+// What is known of the file at the front of these symbols without some nodes.
 fn print_losses<F: Field>(
     rt: &HostRuntime,
     numbers: (usize, usize, usize, usize),
-    zeros: bool,
+    symbols: &[u16; SYMBOLS],
     lost: &[usize],
 ) -> io::Result<()> {
     let code = code_of(numbers)?;
-    let mut held = if zeros {
-        stripe::<F>(&code, &[0; SYMBOLS][..code.file_length().min(SYMBOLS)])
-    } else {
-        counted_stripe::<F>(&code)
-    };
+    let mut held = stripe::<F>(&code, symbols);
     lose_nodes(&code, lost, &mut held);
     let what = if lost.is_empty() {
         format!(in rt.alloc(); "with all nodes")?
@@ -175,20 +177,20 @@ fn print_losses<F: Field>(
 // Losses of whole nodes.
 fn print_all_losses(rt: &HostRuntime) -> io::Result<()> {
     println!(rt; "Modulo 257, n 5, k 4, m 2, a 1, the file 1 to 8")?;
-    print_losses::<Prime>(rt, (5, 4, 2, 1), false, &[])?;
-    print_losses::<Prime>(rt, (5, 4, 2, 1), false, &[0, 1, 4])?;
+    print_losses::<Prime>(rt, (5, 4, 2, 1), &COUNTED, &[])?;
+    print_losses::<Prime>(rt, (5, 4, 2, 1), &COUNTED, &[0, 1, 4])?;
     println!(rt; "Modulo 257, n 4, k 3, m 2, a 1, a file of zeros")?;
-    print_losses::<Prime>(rt, (4, 3, 2, 1), true, &[0, 2])?;
+    print_losses::<Prime>(rt, (4, 3, 2, 1), &[0; SYMBOLS], &[0, 2])?;
     println!(rt; "Modulo 257, n 6, k 3, m 4, a 2, the file 1 to 12")?;
-    print_losses::<Prime>(rt, (6, 3, 4, 2), false, &[0, 3, 4, 5])?;
+    print_losses::<Prime>(rt, (6, 3, 4, 2), &COUNTED, &[0, 3, 4, 5])?;
     println!(rt; "In bytes, n 6, k 3, m 4, a 2, the file 1 to 12")?;
-    print_losses::<Bytes>(rt, (6, 3, 4, 2), false, &[0, 3, 4, 5])
+    print_losses::<Bytes>(rt, (6, 3, 4, 2), &COUNTED, &[0, 3, 4, 5])
 }
 
 // Each of four nodes left alone.
 fn print_single_nodes<F: Field>(rt: &HostRuntime) -> io::Result<()> {
     for lost in [[1, 2, 3], [0, 2, 3], [0, 1, 3], [0, 1, 2]] {
-        print_losses::<F>(rt, (4, 2, 2, 2), false, &lost)?;
+        print_losses::<F>(rt, (4, 2, 2, 2), &COUNTED, &lost)?;
     }
     Ok(())
 }
@@ -202,7 +204,9 @@ fn print_changes<F: Field>(
     let code = code_of((5, 4, 2, 1))?;
     let mut held = counted_stripe::<F>(&code);
     for (node, column, x) in changes {
-        set_cell(&code, &mut held, *node, *column, *x);
+        if let Some(number) = cell_mut(&code, &mut held, *node, *column) {
+            *number = *x;
+        }
     }
     print_known::<F>(rt, &code, what, &mut held)
 }
@@ -254,7 +258,26 @@ fn compare_work(work: &[u32], file: &[u16], used: usize, tally: &mut Tally) {
     }
 }
 
-// Asks for a place with so much of the work memory, and compares all of it afterwards.
+// Asks with so much of the work memory, and compares all of it afterwards, where an answer leaves a file at its
+// front. Returns the answer as it is printed, and the tally.
+fn ask_room<T, A: FnOnce(&mut [u32], &mut [u32]) -> Result<T, Refusal>>(
+    code: &Code,
+    room: usize,
+    file: &[u16],
+    ask: A,
+) -> (Told<T>, Tally)
+    requires { A.IsAlwaysCallable ask }
+{
+    let mut held = counted_stripe::<Bytes>(code);
+    let mut work = [MARK; WORK];
+    let answer = ask(&mut held, &mut work[..room.min(WORK)]);
+    let file: &[u16] = if answer.is_ok() { file } else { &[] };
+    let mut tally = Tally::new();
+    compare_work(&work, file, used_by(code, &answer), &mut tally);
+    (Told(answer), tally)
+}
+
+// Asks for a place.
 fn print_room(
     rt: &HostRuntime,
     code: &Code,
@@ -262,35 +285,19 @@ fn print_room(
     column: usize,
     room: usize,
 ) -> io::Result<()> {
-    let mut held = counted_stripe::<Bytes>(code);
-    let mut work = [MARK; WORK];
-    let lent = &mut work[..room.min(WORK)];
-    let answer = ask_place::<Bytes>(code, &mut held, row, column, lent);
-    let mut tally = Tally::new();
-    compare_work(&work, &[], used_by(code, &answer), &mut tally);
-    println!(rt;
-        "  row {row}, column {column}, {room} numbers: {}; work memory: {tally}",
-        Told(answer)
-    )
+    let (told, tally) = ask_room(code, room, &[], |held, work| {
+        ask_place::<Bytes>(code, held, row, column, work)
+    });
+    println!(rt; "  row {row}, column {column}, {room} numbers: {told}; work memory: {tally}")
 }
 
-// The same for the whole file, which is 1 to 8.
+// Asks for the whole file, which is 1 to 8.
 fn print_file_room(rt: &HostRuntime, code: &Code, room: usize) -> io::Result<()> {
-    let mut held = counted_stripe::<Bytes>(code);
-    let mut work = [MARK; WORK];
-    let answer = ask_file::<Bytes>(code, &mut held, &mut work[..room.min(WORK)]);
-    let file: &[u16] = if answer.is_ok() {
-        &[1, 2, 3, 4, 5, 6, 7, 8]
-    } else {
-        &[]
-    };
-    let mut tally = Tally::new();
-    compare_work(&work, file, used_by(code, &answer), &mut tally);
-    let symbols = if answer.is_ok() { " symbols" } else { "" };
-    println!(rt;
-        "  the file, {room} numbers: {}{symbols}; work memory: {tally}",
-        Told(answer)
-    )
+    let (told, tally) = ask_room(code, room, &COUNTED[..8], |held, work| {
+        ask_file::<Bytes>(code, held, work)
+    });
+    let symbols = if told.0.is_ok() { " symbols" } else { "" };
+    println!(rt; "  the file, {room} numbers: {told}{symbols}; work memory: {tally}")
 }
 
 // How much work memory is needed, and places outside.
@@ -316,7 +323,7 @@ fn print_rooms(rt: &HostRuntime) -> io::Result<()> {
 }
 
 // Numbers that look random: each is the upper half of a state, and the next state is a product and a sum
-// modulo 2^32.
+// modulo 2^32. Not the states of trial's fill_file: the cases looked through are those of these numbers.
 #[derive(Clone, Debug, Drop)]
 struct Random(u32);
 
@@ -337,6 +344,7 @@ impl Random {
 
     // A symbol of the field.
     fn symbol<F: Field>(&mut self) -> u16 {
+        // below F::SIZE, at most 257, so the cast loses nothing
         self.below(F::SIZE) as u16
     }
 }
@@ -457,14 +465,13 @@ fn slow_file(slow: Result<&Solved, Refusal>, file: &mut [u16]) -> Result<usize, 
 // The stripe of a random file.
 fn random_stripe<F: Field>(code: &Code, random: &mut Random) -> [u32; CELLS] {
     let mut file = [0u16; SYMBOLS];
-    for symbol in &mut file {
-        *symbol = random.symbol::<F>();
-    }
-    stripe::<F>(code, &file[..code.file_length().min(SYMBOLS)])
+    file.fill_with(|| random.symbol::<F>());
+    stripe::<F>(code, &file)
 }
 
 // The node and the column of a random cell.
 fn random_cell(code: &Code, random: &mut Random) -> (usize, usize) {
+    // both numbers are below 65,536, so the casts lose nothing
     let node = random.below(65536) as usize % code.nodes();
     let column = random.below(65536) as usize % code.columns();
     (node, column)
@@ -474,8 +481,7 @@ fn random_cell(code: &Code, random: &mut Random) -> (usize, usize) {
 fn change_symbol<F: Field>(code: &Code, random: &mut Random, held: &mut [u32]) {
     let (node, column) = random_cell(code, random);
     let by = random.below(F::SIZE - 1) + 1;
-    let row = held.chunks_exact_mut(code.columns()).nth(node);
-    if let Some(number) = row.and_then(|row| row.get_mut(column)) {
+    if let Some(number) = cell_mut(code, held, node, column) {
         *number = number.saturating_add(by) % F::SIZE;
     }
 }
@@ -483,15 +489,15 @@ fn change_symbol<F: Field>(code: &Code, random: &mut Random, held: &mut [u32]) {
 // Puts a number that is no symbol into a random cell.
 fn spoil_cell<F: Field>(code: &Code, random: &mut Random, held: &mut [u32]) {
     let (node, column) = random_cell(code, random);
-    let number = F::SIZE + random.below(1000);
-    set_cell(code, held, node, column, number);
+    let spoilt = F::SIZE + random.below(1000);
+    if let Some(number) = cell_mut(code, held, node, column) {
+        *number = spoilt;
+    }
 }
 
 // Puts a random symbol into each cell.
 fn fill_symbols<F: Field>(random: &mut Random, held: &mut [u32]) {
-    for number in held {
-        *number = u32::from(random.symbol::<F>());
-    }
+    held.fill_with(|| u32::from(random.symbol::<F>()));
 }
 
 // Loses each node `nodes` times in eight, and then each cell `cells` times in eight.
@@ -509,6 +515,7 @@ fn lose_some(code: &Code, random: &mut Random, nodes: u32, cells: u32, held: &mu
 // A random case: a stripe, often with a change, and random losses.
 fn random_case<F: Field>(code: &Code, random: &mut Random) -> [u32; CELLS] {
     let mut held = random_stripe::<F>(code, random);
+    // The number drawn picks the change, in the order of the stored output.
     match random.below(10) {
         0 | 1 => change_symbol::<F>(code, random, &mut held),
         2 => fill_symbols::<F>(random, &mut held),
@@ -558,7 +565,7 @@ fn print_all_random<F: Field>(rt: &HostRuntime, seed: u32) -> io::Result<()> {
     Ok(())
 }
 
-// What the output is about, for a reader who has seen nothing else.
+// What the output is about, for a reader who has seen nothing else. Its lines are as long as they are printed.
 fn print_introduction(rt: &HostRuntime) -> io::Result<()> {
     println!(rt;
         "A file of k rows of m symbols is laid over n nodes, each with m data cells and a coded cells. A file fits what the"
