@@ -55,6 +55,7 @@ impl Slow for Bytes {
 
     fn slow_product(u: u16, v: u16) -> u16 {
         let product = shift_and_reduce(u32::from(below(256, u)), u32::from(below(256, v)));
+        // below 256, so the cast loses nothing
         (product & 0xff) as u16
     }
 }
@@ -114,6 +115,7 @@ fn compare_pairs<C: Fn(u16, u16) -> u16, E: Fn(u16, u16) -> u16>(
 // The product of every symbol but 0 and its inverse against 1.
 fn compare_inverses<F: Field>() -> Tally {
     let mut tally = Tally::new();
+    // below F::SIZE, at most 257, so the casts lose nothing
     for u in 1..F::SIZE {
         tally.compare(F::product(u as u16, F::inverse(u as u16)), 1);
     }
@@ -172,6 +174,7 @@ fn print_comparisons<F: Field + Slow>(rt: &HostRuntime) -> io::Result<()> {
         compare_powers::<F>()
     )?;
     println!(rt; "Compared with what the laws of a field ask:")?;
+    // at most 256, so the cast loses nothing
     let last = (F::SIZE - 1) as u16;
     println!(rt;
         "  u + v - v with u, at all symbols u and v: {}",

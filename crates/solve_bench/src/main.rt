@@ -1,5 +1,6 @@
 // Measures the solver against an elimination of all symbols over all present cells. Standard output says
-// only what both find; the times, which differ from run to run, go to standard error.
+// only what both find; the times, which differ from run to run, go to standard error. Refusals are printed by
+// number.
 #![tactic(auto)]
 
 use code::{Code, Refusal};
@@ -11,13 +12,14 @@ use std::{fmt, io};
 use store::Grid;
 use trial::{Solved, fill_file, solve_cells};
 
-// What stands for a lost cell.
+// The mark of a lost cell in a grid, see store.
 const LOST: u32 = u32::MAX;
 
 // How often each of the two runs. The fastest turn counts.
 const TURNS: u32 = 5;
 
-// Which cells are lost: the first data cells of the stripe, or the first nodes.
+// Which cells are lost: the first data cells of the stripe, or the first nodes. An enum and no closure, since
+// it is printed too.
 #[derive(Clone, Copy, Debug)]
 enum Losses {
     Symbols(usize),
@@ -53,7 +55,8 @@ impl Losses {
     }
 }
 
-// What a solver answers, and how many nanoseconds its fastest turn takes.
+// What a solver answers, and how many nanoseconds its fastest turn takes. Not the mean, as in encode_bench: an
+// elimination takes long, and other work of the machine disturbs it.
 fn fastest<T: Drop, S: FnMut() -> T>(rt: &HostRuntime, mut solver: S) -> io::Result<(T, u128)>
     requires { S.IsAlwaysCallable solver }
 {
@@ -87,7 +90,8 @@ fn agree(
     }
 }
 
-// Prints how long the solver takes, and how many times as long the elimination.
+// Prints how long the solver takes, and how many times as long the elimination. encode_bench prints the same
+// ratio with words of its own around it.
 fn print_ratio(
     rt: &HostRuntime,
     field: &str,
@@ -109,6 +113,7 @@ fn stripe<F: Field>(rt: &HostRuntime, code: &Code, losses: Losses) -> io::Result
     let mut file = vec![in rt.alloc(); 0u16; code.file_length()]?;
     fill_file::<F>(&mut file);
     let mut cells = vec![in rt.alloc(); 0u16; code.nodes() * code.columns()]?;
+    // never declined: the file and the memory have the code's lengths, and the file holds symbols only
     let _ = encode::<F>(code, &file, &mut cells);
     let mut held = Vec::with_capacity(rt.alloc(), cells.len())?;
     for x in &cells {
@@ -170,8 +175,9 @@ fn main(rt: HostRuntime) -> io::Result<()> {
             println!(rt; "  no code.")?;
             continue;
         };
-        println!(rt; "  n {n}, k {k}, m {m}, a {a}:")?;
-        eprintln!(rt; "  n {n}, k {k}, m {m}, a {a}:")?;
+        let title = format!(in rt.alloc(); "n {n}, k {k}, m {m}, a {a}")?;
+        println!(rt; "  {title}:")?;
+        eprintln!(rt; "  {title}:")?;
         compare::<Prime>(&rt, "prime", &code)?;
         compare::<Bytes>(&rt, "bytes", &code)?;
     }

@@ -46,8 +46,9 @@ fn file_of_legs() -> [u16; SYMBOLS] {
     file
 }
 
-// Gives the round the two symbols that it wants for one column, and notes the nodes that were asked. The
-// range only says when the loop is over: which cell is wanted, the round says.
+// Gives the round the two symbols that it wants for one column, and notes the nodes that were asked: for that
+// note the program drives the round itself. The range only says when the loop is over: which cell is wanted, the
+// round says. The two ends with Outside are not reached: a round wants cells of the code, and two for a column.
 fn fetch_column(
     mut round: Wanting<Bytes>,
     cells: &[u16; CELLS],
@@ -68,7 +69,8 @@ fn fetch_column(
 }
 
 // Rebuilds the cells of a node by a round over the cells of the others. Here too the range only says when the
-// loop is over: which column is finished, the round says.
+// loop is over: which column is finished, the round says. Nor is the end with Outside reached here: the round is
+// over with the last of its columns.
 fn run_round(code: &Code, node: usize, cells: &[u16; CELLS]) -> Result<Brought, Refusal> {
     let mut symbols = [0; COLUMNS];
     let mut asked = [false; NODES];
