@@ -9,11 +9,8 @@ use field::{Bytes, Field, Prime};
 use solve::only_file;
 use std::time::Instant;
 use std::{fmt, io};
-use store::Grid;
+use store::{Grid, LOST};
 use trial::{Solved, fill_file, solve_cells};
-
-// The mark of a lost cell in a grid, see store.
-const LOST: u32 = u32::MAX;
 
 // How often each of the two runs. The fastest turn counts.
 const TURNS: u32 = 5;

@@ -10,7 +10,7 @@ use field::{Bytes, Field, Prime};
 use solve::{only_file, shared_symbol};
 use std::alloc::{AllocError, Global};
 use std::{fmt, io};
-use store::Grid;
+use store::{Grid, LOST};
 use trial::{Solved, Tally, solve_cells};
 
 // The codes here have at most 20 symbols and 64 cells. Every solver gets more work memory than the 420
@@ -22,9 +22,7 @@ const CELLS: usize = 64;
 
 const WORK: usize = 450;
 
-// The mark of a lost cell in a grid (see store), and what stands in the work memory before a call.
-const LOST: u32 = u32::MAX;
-
+// What stands in the work memory before a call.
 const MARK: u32 = 7777;
 
 // How many cases of random cells are tried in each code.
@@ -73,6 +71,9 @@ fn stripe<F: Field>(code: &Code, symbols: &[u16; SYMBOLS]) -> [u32; CELLS] {
     let _ = encode::<F>(code, file, &mut cells);
     cells.map(u32::from)
 }
+
+// A code and the numbers of a grid stay two parameters, here and below: each question to the solver makes a grid, which
+// borrows the numbers alone, and a struct of both would be taken apart for it each time.
 
 // Loses all cells of some nodes.
 fn lose_nodes(code: &Code, nodes: &[usize], held: &mut [u32]) {
@@ -559,6 +560,7 @@ fn print_all_random<F: Field>(rt: &HostRuntime, seed: u32) -> io::Result<()> {
         (7, 5, 4, 3),
         (8, 4, 5, 3),
     ] {
+        // the only place here that prints the four numbers
         print!(rt; "  n {n}, k {k}, m {m}, a {a}:")?;
         print_random::<F>(rt, &code_of((n, k, m, a))?, &mut random)?;
     }
