@@ -1,12 +1,6 @@
-use Rattle.std.proofs.Common.{rules, ◌≡◌, ◌*◌, ap, arith, rules}
-use Rattle.code.proofs.Places.{place_below}
+use Rattle.std.proofs.Common.{rules, arith, rules}
 use Rattle.solve.proofs.UnitFiles.{unit_encoded}
 use Rattle.solve.proofs.factors.encode_unit.Goals as goal
-
-pub bounds-file-j : goal.bounds-file-j
-bounds-file-j g c =
-    let e : c.args.j * c.data_columns.result ≡ c.args.j * c.args.code.now.m = ap (λ t. c.args.j * t) c.data_columns.ensures in
-    omega (arith, place_below c.args.code.now.k c.args.code.now.m c.args.j 0 c.requires.node c.args.code.now.data_columns.0)
 
 pub returns : goal.returns
 returns g c =

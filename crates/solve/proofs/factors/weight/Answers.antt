@@ -1,10 +1,6 @@
 use Rattle.std.proofs.Common.{arith}
-use Rattle.solve.proofs.UnitFiles.{weight_same, weight_other, weight_coded}
+use Rattle.solve.proofs.UnitFiles.{weight_other, weight_coded}
 use Rattle.solve.proofs.factors.weight.Goals as goal
-
-pub returns-then-c-t : goal.returns-then-c-t
-returns-then-c-t g c =
-    weight_same g.F.Field.ops g.met.F.Field.laws c.args.code.now c.args.v c.args.c c.args.t c.requires.node c.requires.column c.if-c-t.true
 
 pub returns-else-c-t : goal.returns-else-c-t
 returns-else-c-t g c =

@@ -1,9 +1,5 @@
-use Rattle.solve.proofs.Deciding.{listed_symbols, built_from}
+use Rattle.solve.proofs.Deciding.{built_from}
 use Rattle.solve.proofs.reading.solve.Goals as goal
-
-pub build-requires-clause-symbols : goal.build-requires-clause-symbols
-build-requires-clause-symbols g c =
-    listed_symbols g.F.Field.ops g.met.F.Field.laws c.args.code.now (g.S.Store.meaning c.args.store.now).cell c.in_ok-cells.cells c.in_ok-cells.ensures
 
 pub returns-clause-built : goal.returns-clause-built
 returns-clause-built g c =

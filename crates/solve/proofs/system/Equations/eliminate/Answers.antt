@@ -1,18 +1,7 @@
-use Rattle.std.proofs.Common.{◌+◌, ◌<◌, refl, arith}
-use Rattle.encode.proofs.Windows.{row_end}
+use Rattle.std.proofs.Common.{◌<◌, refl, arith}
 use Rattle.solve.proofs.Steps.{OutUpTo, out_skip, out_pass, out_row}
 use Rattle.solve.proofs.system.Equations.eliminate.Goals as goal
 use Rattle.solve.proofs.system.Equations.eliminate.Goals.{then-s-c, else-s-c}
-
-pub subtract_row-requires : goal.subtract_row-requires
-subtract_row-requires g c =
-    let low : c.in-Some.s < c.args.self.now.n = omega (arith, c.in-Some.ensures) in
-    let lc : c.args.c < c.args.self.now.n = omega arith in
-    record {
-      differ = c.if-s-c.true;
-      inside = omega (arith, row_end c.in-Some.s (c.args.self.now.n + 1) c.args.self.now.n low);
-      other_inside = omega (arith, row_end c.args.c (c.args.self.now.n + 1) c.args.self.now.n lc);
-    }
 
 pub loop-s-preserved : goal.loop-s-preserved
 loop-s-preserved g c =
@@ -33,9 +22,6 @@ loop-s-preserved g c =
         | else-s-c w ↦ rw w.numbers-is (out_pass F L N c.args.c lc before c.loop-s.numbers c.in-Some.s w.if-s-c.false skipped)
       ],
     )
-
-pub returns-clause-kept : goal.returns-clause-kept
-returns-clause-kept g c = c.loop-s.invariant.1.kept
 
 pub returns-clause-others : goal.returns-clause-others
 returns-clause-others g c =
