@@ -1,7 +1,7 @@
 -- Nodes counted round: what ⟨v + s⟩ and ⟨v − s⟩ come to.
 use Rattle.std.proofs.lemmas.Grind.{common_steps}
 use Rattle.std.proofs.Common.{◌≡◌, ℕ, ◌+◌, ◌-◌, ◌%◌, ◌<◌, ◌≤◌, ◌⊎◌, sym, ap, ◌∙◌, mod-lt, mod-eq_of_lt, arith}
-use native.Mathlib.Nat.{mod-mod, mod-eq-sub-mod, mod-add-mod, add-mod-mod, add-mod_right}
+use native.Mathlib.Nat.{mod-mod, mod-eq-sub-mod, mod-add-mod, add-mod, add-mod-mod, add-mod_right}
 use Rattle.code.specs.Positions.{ahead, behind, BehindUndoesAhead}
 
 -- a step back that is followed by one ahead, before the remainder is taken
@@ -49,6 +49,13 @@ behind-ahead n v s l = sym (only_behind n (ahead n v s) s v l (sym (mod-mod (v +
 -- ⟨⟨v⟩ − s⟩ is ⟨v − s⟩
 pub behind_rounded : (n v s : ℕ) → behind n (v % n) s ≡ behind n v s
 behind_rounded n v s = mod-add-mod v n (n - s % n)
+
+-- ⟨⟨v⟩ + ⟨s⟩⟩ is ⟨v + s⟩, and ⟨⟨v⟩ − ⟨s⟩⟩ is ⟨v − s⟩
+pub ahead_both : (n v s : ℕ) → ahead n (v % n) (s % n) ≡ ahead n v s
+ahead_both n v s = sym (add-mod v s n)
+
+pub behind_both : (n v s : ℕ) → behind n (v % n) (s % n) ≡ behind n v s
+behind_both n v s = ap (λ (x : ℕ). (v % n + (n - x)) % n) (mod-mod s n) ∙ behind_rounded n v s
 
 -- ⟨⟨v + s⟩ + t⟩ is ⟨v + (s + t)⟩
 pub ahead-ahead : (n v s t : ℕ) → ahead n (ahead n v s) t ≡ ahead n v (s + t)

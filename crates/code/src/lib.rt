@@ -1,7 +1,7 @@
 // The code: its record, the rules of a stripe, and what is computed from them.
 #![tactic(auto)]
 
-ghost use Rattle.std.specs.Prelude.{◌≡◌, ◌+◌, ◌-◌, ◌*◌};
+ghost use Rattle.std.specs.Prelude.{◌≡◌, ◌+◌, ◌-◌, ◌*◌, ◌%◌};
 ghost use Rattle.code.specs.Bounds.{Made};
 ghost use Rattle.code.specs.Positions.{BehindUndoesAhead, ahead, behind};
 
@@ -64,14 +64,24 @@ impl Code {
     pub fn ahead(&self, v: usize, s: usize) -> usize
         ensures { result ≡ ahead self.now.n v s }
     {
-        (v % self.n + s % self.n) % self.n
+        let (v, s) = (self.counted_round(v), self.counted_round(s));
+        let sum = v + s;
+        if sum < self.n { sum } else { sum - self.n }
     }
 
     /// ⟨v − s⟩: the node s places behind v, counted round.
     pub fn behind(&self, v: usize, s: usize) -> usize
         ensures { result ≡ behind self.now.n v s }
     {
-        (v % self.n + (self.n - s % self.n)) % self.n
+        let (v, s) = (self.counted_round(v), self.counted_round(s));
+        if s <= v { v - s } else { v + self.n - s }
+    }
+
+    // ⟨v⟩. A node is counted round already, and takes no division.
+    fn counted_round(&self, v: usize) -> usize
+        ensures { result ≡ v % self.now.n }
+    {
+        if v < self.n { v } else { v % self.n }
     }
 
     /// The length of a file, k·m.

@@ -35,9 +35,8 @@ impl<F: Field> Weights<F> {
     }
 }
 
-/// ⟨v − s⟩, for a node v and a shift s below n. `Code::behind` takes any two numbers, and three remainders for that.
-/// The sums below have a shift for each term: with it the benchmark of the encoder counted 3.9 million instructions
-/// more, of 718 million that are mostly the elimination's.
+/// ⟨v − s⟩, for a node v and a shift s below n. `Code::behind` takes any two numbers, and tests each whether it is below n;
+/// the sums below have a shift for each term, and there both are.
 pub(crate) fn back(n: usize, v: usize, s: usize) -> usize
     requires node { v < n }
     requires shift { s < n }

@@ -42,6 +42,20 @@ pub trait Field {
     fn inverse(u: u16) -> u16
         ensures { result ≡ ops.inv u };
 
+    /// The size q of the operations, `SIZE`.
+    fn order() -> u32
+        ensures { result ≡ ops.q }
+    {
+        Self::SIZE
+    }
+
+    /// The generator α of the operations, `GENERATOR`.
+    fn alpha() -> u16
+        ensures { result ≡ ops.α }
+    {
+        Self::GENERATOR
+    }
+
     // The constants are those of the operations.
     ghost size: { SIZE ≡ ops.q };
 

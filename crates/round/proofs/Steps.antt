@@ -4,7 +4,6 @@ use Rattle.std.proofs.Common.{◌≡◌, ℕ, ◌+◌, ◌-◌, ◌*◌, ◌<◌
 use Rattle.std.proofs.lemmas.Bool.{cases_lt, cases_eq}
 use Rattle.std.proofs.lemmas.List.{get_or_push, get_or_append_left, length_push}
 use Rattle.field.specs.Laws.{Operations, Laws}
-use Rattle.field.specs.Powers.{multiplies, power-add}
 use Rattle.code.specs.declared.record.Code.{Code}
 use Rattle.round.specs.Wanted.{made, α_power}
 use Rattle.round.specs.States.{Wants, Holds, of_column, AllSymbols}
@@ -82,19 +81,18 @@ pub now_holds : {X : Type 0} (F : Operations) (L : Laws F) (code : Code) (f : �
 now_holds F L code f symbols w v h was below hc hn hcol full joins = grind (arith, common_steps, joined_is, length_push, symbols_more)
 
 -- the factor of the next symbol
-factor_more : (F : Operations) → Laws F → (d s : ℕ) → F.mul (α_power F (d * s)) (α_power F d) ≡ α_power F (d * (s + 1))
-factor_more F L d s =
-    let e : d * s + d ≡ d * (s + 1) = omega arith in
-    sym (power-add F (multiplies F L) F.α (d * s) d L.generator_below) ∙ ap (α_power F) e
+factor_more : (F : Operations) (d s : ℕ) → α_power F (d * s + d) ≡ α_power F (d * (s + 1))
+factor_more F d s =
+    let e : d * s + d ≡ d * (s + 1) = omega arith in ap (α_power F) e
 
 -- the symbol given was not the last one for its column
 pub still_wants : {X : Type 0} (F : Operations) (L : Laws F) (code : Code) (f : ℕ) (symbols : List ℕ) (w : Wanting X) (v r : ℕ) (w' : Wanting X)
     → Wants F code f symbols w → v < F.q
     → w'.code ≡ w.code → w'.node ≡ w.node → w'.column ≡ w.column → w'.place ≡ w.place + 1
-    → w'.weight ≡ F.mul w.weight (α_power F (w.column - w.code.m))
+    → w'.weight ≡ α_power F ((w.column - code.m) * w.place + (w.column - code.m))
     → w'.made ≡ Some r
     → Joins F w.code w.column w.made w.weight v r
     → Wants F code f (symbols ++ v ∷ []) w'
 still_wants F L code f symbols w v r w' was below hc hn hcol one_more hw made_is joins =
-    let factor = factor_more F L (w.column - code.m) w.place in
+    let factor = factor_more F (w.column - code.m) w.place in
     grind (arith, common_steps, joined_is, length_push, symbols_more)

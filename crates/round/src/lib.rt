@@ -1,13 +1,13 @@
 // Rebuilding the cells of one node from cells of other nodes, symbol by symbol.
 #![tactic(auto)]
 
-ghost use Rattle.std.specs.Prelude.{◌≡◌, ℕ, ◌<◌, ◌≤◌, Some, None};
-ghost use Rattle.round.specs.Wanted.{wanted};
+ghost use Rattle.std.specs.Prelude.{◌≡◌, ℕ, ◌+◌, ◌<◌, ◌≤◌, Some, None};
+ghost use Rattle.round.specs.Wanted.{wanted, α_power};
 ghost use Rattle.round.specs.Round.{nodes_asked, EveryRound};
 ghost use Rattle.round.specs.States.{given_wanting, given_holding, given_over, Begun, Gives, Takes};
 
 use code::{Code, Refusal};
-use field::{Field, power};
+use field::Field;
 use std::marker::PhantomData;
 
 mod state;
@@ -91,9 +91,8 @@ impl<F: Field> Wanting<F> {
                 field,
             }));
         }
-        let step = power::<F>(F::GENERATOR, self.column.saturating_sub(m));
         self.made = Some(made);
-        self.weight = F::product(self.weight, step);
+        self.weight = raised::<F>(self.weight, self.column.saturating_sub(m));
         self.place += 1;
         Ok(Given::Wanting(self))
     }
@@ -187,4 +186,16 @@ pub fn nodes_asked(code: &Code) -> usize
 {
     let near = 2 * code.data_columns() + code.coded_columns() - 1;
     near.min(code.nodes() - 1)
+}
+
+// A power of the generator, as many exponents higher. One product for each: there are at most 2, where `field::power`
+// would take as many and more.
+fn raised<F: Field>(power: u16, by: usize) -> u16
+    ensures { (e : ℕ) → power ≡ α_power F.ops e → result ≡ α_power F.ops (e + by) }
+{
+    let mut raised = power;
+    for _i in 0..by {
+        raised = F::product(F::GENERATOR, raised);
+    }
+    raised
 }

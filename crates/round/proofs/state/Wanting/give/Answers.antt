@@ -1,5 +1,5 @@
-use Rattle.std.proofs.Common.{◌≡◌, ◌+◌, ◌-◌, ◌<◌, refl, ap, ◌∙◌, arith}
-use Rattle.field.specs.Laws.{power}
+use Rattle.std.proofs.Common.{◌≡◌, ◌+◌, ◌-◌, ◌*◌, ◌<◌, refl, ap, ◌∙◌, arith}
+use Rattle.code.specs.declared.record.Code.{Code}
 use Rattle.round.specs.Wanted.{α_power}
 use Rattle.round.proofs.Steps.{now_holds, still_wants}
 use Rattle.round.proofs.state.Wanting.give.Goals as goal
@@ -29,8 +29,6 @@ returns g c =
     let F = g.F.Field.ops in
     let j = c.joined-made.ensures in
     let below : c.args.symbol < F.q = omega (arith, g.met.F.Field.size) in
-    let generator : c.GENERATOR.result ≡ F.α = c.GENERATOR.ensures ∙ g.met.F.Field.generator in
-    let by : c.saturating_sub.result ≡ w.column - w.code.m = omega arith in
     record {
       symbol = below;
       more = omega arith;
@@ -39,9 +37,11 @@ returns g c =
       column_kept = refl;
       counted = omega arith;
       given_too = λ code f symbols h.
+          let m : w.code.m ≡ code.m = ap (λ (x : Code). x.m) h.code_is in
+          let by : c.saturating_sub.result ≡ w.column - code.m = omega arith in
           still_wants F g.met.F.Field.laws code f symbols w c.args.symbol _ _ h below refl refl refl refl
-          (c.product.ensures
-          ∙ ap (F.mul w.weight) (c.power-step.ensures ∙ ap (λ u. power F u c.saturating_sub.result) generator ∙ ap (α_power F) by))
+          (c.raised.ensures ((w.column - code.m) * w.place) h.factor
+          ∙ ap (λ k. α_power F ((w.column - code.m) * w.place + k)) by)
           refl
           (record { first = j.first; in_data = j.«data»; in_coded = j.coded });
     }
