@@ -3,8 +3,9 @@
 
 ghost use Rattle.std.specs.Prelude.{◌≡◌, ◌+◌, ◌≤◌, [], length, take, None, if◌then◌else◌};
 ghost use Rattle.std.specs.List.{fold};
-ghost use Rattle.store.specs.Meaning.{Blank, allowed};
+ghost use Rattle.store.specs.Meaning.{Blank, Same, allowed};
 ghost use Rattle.store.specs.Sizes.{counted_columns, counted_nodes};
+ghost use Rattle.store.specs.Shown.{same_spares};
 ghost use Rattle.commands.specs.Commands.{commands_in, card, is_on, value_of, Inside, Longest, TakenUp};
 ghost use Rattle.card.specs.Cards.{lent_bytes, used_part, meaning_of, Later, PutCommand, Edited, TakesUpAgain};
 ghost use Rattle.card.specs.Shown.{card_lawful, card_edits, later_frames, edits_later};
@@ -116,6 +117,8 @@ impl<'a> Store for Card<'a> {
 
     ghost edited = { Edited };
 
+    ghost declines = { Same };
+
     ghost frame = { Later };
 
     ghost lawful = { card_lawful };
@@ -125,6 +128,8 @@ impl<'a> Store for Card<'a> {
     ghost frames = { later_frames };
 
     ghost framed = { edits_later };
+
+    ghost spares = { same_spares meaning_of Later later_frames };
 
     fn nodes(&self) -> usize {
         self.shape.nodes

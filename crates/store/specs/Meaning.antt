@@ -67,3 +67,12 @@ abbrev pub Framed : {S : Type 0} → (S → Meaning) → (S → ℕ → ℕ → 
 Framed {S} meaning edited frame =
     (old new : S) (j c : ℕ) (v : Option ℕ)
     → IsCell v → allowed (meaning old) j c ≡ true → edited old j c v new → frame old new
+
+-- A store that a change leaves as it is: the state after is the state before.
+abbrev pub Same : {S : Type 0} → S → S → Type 0
+Same old new = new ≡ old
+
+-- What a change that is not taken leaves of a store means what it meant, and is a step of the frame.
+abbrev pub Spares : {S : Type 0} → (S → Meaning) → (S → S → Type 0) → (S → S → Type 0) → Type 0
+Spares {S} meaning declines frame =
+    (old new : S) → declines old new → (meaning new ≡ meaning old) × frame old new

@@ -1,12 +1,12 @@
 -- Every grid keeps the laws of a meaning, an edit changes one cell, and later states are a frame.
-use Rattle.std.proofs.Common.{◌≡◌, ℕ, ◌+◌, ◌*◌, ◌<◌, ◌≤◌, Bool, cond, ◌&&◌, Some, None, Option, nat_lt}
-use Rattle.std.proofs.Common.{slice_index, slice_set, List, length, set, get_or, refl, sym, ap, ◌∙◌, inl, inr}
+use Rattle.std.proofs.Common.{◌≡◌, ℕ, ◌+◌, ◌*◌, ◌<◌, ◌≤◌, Bool, true, false, cond, ◌&&◌, Some, None, Option, nat_lt}
+use Rattle.std.proofs.Common.{slice_index, slice_set, List, length, set, get_or, refl, sym, subst, ap, ◌∙◌, inl, inr}
 use Rattle.std.proofs.Common.{arith, get_or-set_other, get_or-set_same, length-set}
 use mathlib.Core.Path.{fun_ext}
 use Rattle.std.proofs.lemmas.Nat.{mul-add-lt, same_from_place}
 use Rattle.std.proofs.lemmas.Bool.{cases_lt, cases_eq}
 use Rattle.std.proofs.lemmas.Bool.Decides.{nat_tests}
-use Rattle.store.specs.Meaning.{Lawful, Edits, Frames, Framed, IsCell, put}
+use Rattle.store.specs.Meaning.{Meaning, Cells, Lawful, Changed, Edits, Frames, Framed, Spares, Same, IsCell, allowed, put}
 use Rattle.store.specs.Grids.{grid, meaning_of, told, number_of, PutNumber, numbers, Markable, Later}
 use Rattle.store.specs.declared.lent.Grid.{Grid}
 
@@ -113,3 +113,27 @@ later_frames = record {
     ];
   };
 }
+
+-- a store that a change leaves as it is means what it meant, and the frame has it
+pub same_spares : {S : Type 0} (meaning : S → Meaning) (frame : S → S → Type 0)
+    → Frames frame → Spares meaning Same frame
+same_spares {S} meaning frame frames old new e =
+    (ap meaning e, subst (λ (s : S). frame old s) (sym e) (frames.same old))
+
+-- For callers of a store: two meanings with the same parts are equal ..
+pub same_meaning : (m n : Meaning)
+    → m.nodes ≡ n.nodes → m.columns ≡ n.columns → m.cell ≡ n.cell → m.allowance ≡ n.allowance → m ≡ n
+same_meaning m n p q r s =
+    ap (λ (x : ℕ). record { nodes = x; columns = m.columns; cell = m.cell; allowance = m.allowance }) p
+    ∙ ap (λ (x : ℕ). record { nodes = n.nodes; columns = x; cell = m.cell; allowance = m.allowance }) q
+    ∙ ap (λ (f : Cells). record { nodes = n.nodes; columns = n.columns; cell = f; allowance = m.allowance }) r
+    ∙ ap (λ (x : ℕ). record { nodes = n.nodes; columns = n.columns; cell = n.cell; allowance = x }) s
+
+-- .. a change that is not taken leaves the meaning as it is ..
+pub not_taken : (m n : Meaning) (j c : ℕ) (v : Option ℕ) → Changed m j c v false n → n ≡ m
+not_taken m n j c v h =
+    same_meaning n m h.nodes h.columns h.cell (let a = h.most in let b = h.least in omega arith)
+
+-- .. and a cell inside is changed while the allowance is at least 1.
+pub is_allowed : (m : Meaning) (j c : ℕ) → j < m.nodes → c < m.columns → 1 ≤ m.allowance → allowed m j c ≡ true
+is_allowed m j c hj hc ha = grind (arith, nat_tests)

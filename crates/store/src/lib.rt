@@ -3,10 +3,10 @@
 
 ghost use Rattle.std.specs.Prelude.{◌≡◌, ℕ, length, replicate, Option, Some, None};
 ghost use Rattle.std.specs.Bool.{OnTrue, OnFalse};
-ghost use Rattle.store.specs.Meaning.{Meaning, Lawful, Changed, Edits, Frames, Framed, Blank, allowed};
+ghost use Rattle.store.specs.Meaning.{Meaning, Lawful, Changed, Edits, Frames, Framed, Spares, Same, Blank, allowed};
 ghost use Rattle.store.specs.Sizes.{counted_columns, whole_nodes};
 ghost use Rattle.store.specs.Grids.{PutNumber, Later, grid, numbers, meaning_of, lost_mark, Place};
-ghost use Rattle.store.specs.Shown.{grid_lawful, grid_edits, later_frames, edits_later};
+ghost use Rattle.store.specs.Shown.{grid_lawful, grid_edits, later_frames, edits_later, same_spares};
 
 mod lent;
 mod shape;
@@ -19,7 +19,7 @@ pub use shape::{Shape, count_columns, count_nodes};
 
 /// A store of cells. The questions change nothing and tell the meaning. `edit`, `write` and `lose` say
 /// whether the change was taken: that is so exactly where there is such a cell and the allowance is not
-/// used up. A change that is not taken leaves the store itself as it is.
+/// used up. A change that is not taken leaves the meaning as it is.
 ///
 /// An implementation writes `edit`, and `write` and `lose` are made of it.
 pub trait Store {
@@ -29,6 +29,10 @@ pub trait Store {
     /// what a write (`Some` of the symbol) or a loss (`None`) of one cell, where it is taken, does to the
     /// store itself and to the memory that it lies in
     ghost edited: { Self → ℕ → ℕ → Option ℕ → Self → Type 0 };
+
+    /// what a change that is not taken does to the store itself: to a grid and to a card nothing; another
+    /// store may note it, outside its meaning
+    ghost declines: { Self → Self → Type 0 };
 
     /// what any number of changes keeps: a store over lent memory is still over the same memory
     ghost frame: { Self → Self → Type 0 };
@@ -54,7 +58,7 @@ pub trait Store {
     fn edit(&mut self, j: usize, c: usize, v: Option<u16>) -> bool
         ensures answer { result ≡ allowed (meaning self.old) j c }
         ensures edited { OnTrue result (edited self.old j c v self.new) }
-        ensures declined { OnFalse result (self.new ≡ self.old) };
+        ensures declined { OnFalse result (declines self.old self.new) };
 
     /// Writes a symbol into a cell.
     fn write(&mut self, j: usize, c: usize, s: u16) -> bool
@@ -62,7 +66,7 @@ pub trait Store {
         ensures changed { Changed (meaning self.old) j c (Some s) result (meaning self.new) }
         ensures framed { frame self.old self.new }
         ensures edited { OnTrue result (edited self.old j c (Some s) self.new) }
-        ensures declined { OnFalse result (self.new ≡ self.old) }
+        ensures declined { OnFalse result (declines self.old self.new) }
     {
         self.edit(j, c, Some(s))
     }
@@ -73,7 +77,7 @@ pub trait Store {
         ensures changed { Changed (meaning self.old) j c None result (meaning self.new) }
         ensures framed { frame self.old self.new }
         ensures edited { OnTrue result (edited self.old j c None self.new) }
-        ensures declined { OnFalse result (self.new ≡ self.old) }
+        ensures declined { OnFalse result (declines self.old self.new) }
     {
         self.edit(j, c, None)
     }
@@ -89,6 +93,9 @@ pub trait Store {
 
     /// an edit keeps the frame
     ghost framed: { Framed meaning edited frame };
+
+    /// a change that is not taken leaves the meaning as it is, and keeps the frame
+    ghost spares: { Spares meaning declines frame };
 }
 
 // It is a number and no `None`, since the row that the owner lends and reads holds numbers alone.
@@ -147,6 +154,8 @@ impl<'a> Store for Grid<'a> {
 
     ghost edited = { PutNumber };
 
+    ghost declines = { Same };
+
     ghost frame = { Later };
 
     ghost lawful = { grid_lawful };
@@ -156,6 +165,8 @@ impl<'a> Store for Grid<'a> {
     ghost frames = { later_frames };
 
     ghost framed = { edits_later };
+
+    ghost spares = { same_spares meaning_of Later later_frames };
 
     fn nodes(&self) -> usize {
         self.shape.nodes
