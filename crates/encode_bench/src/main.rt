@@ -3,16 +3,19 @@
 // run, go to standard error.
 #![tactic(auto)]
 
-use code::{Code, MOST_CELLS};
+use code::{Code, MOST_CELLS, MOST_NODES, MOST_SYMBOLS};
 use encode::encode;
 use field::{Bytes, Field, Prime, power};
-use std::alloc::{AllocError, Global};
 use std::io;
 use std::time::{Duration, Instant};
 use trial::{eliminate, fill_file};
 
 // How often each encoder runs.
 const TURNS: u32 = 20;
+
+// The most numbers in the equations of a column: an equation for each parity node, with a factor for each and the
+// right side, and one node at least holds data.
+const MOST_NUMBERS: usize = (MOST_NODES - 1) * MOST_NODES;
 
 // A code, and a memory in which the straightforward encoder writes a stripe of it.
 #[derive(Drop)]
@@ -40,18 +43,19 @@ impl Stripe<'_> {
         F::difference(0, sum)
     }
 
-    // The equations of data column t: the i-th is the sum over the parity nodes v of α^(i·v) · x(v, t), and
-    // what the data nodes leave of 0.
-    fn equations<F: Field>(&self, alloc: Global, t: usize) -> Result<Vec<u16>, AllocError> {
-        let r = self.code.parity_nodes();
-        let mut numbers = Vec::with_capacity(alloc, r * (r + 1))?;
-        for i in 0..r {
-            for v in self.code.data_nodes()..self.code.nodes() {
-                numbers.push(power::<F>(F::GENERATOR, i.saturating_mul(v)))?;
+    // Writes the equations of data column t: the i-th is the sum over the parity nodes v of α^(i·v) · x(v, t),
+    // and what the data nodes leave of 0.
+    fn fill_equations<F: Field>(&self, t: usize, equations: &mut [u16]) {
+        let code = self.code;
+        let rows = equations.chunks_exact_mut(code.parity_nodes() + 1);
+        for (i, row) in rows.enumerate() {
+            for (v, x) in (code.data_nodes()..code.nodes()).zip(row.iter_mut()) {
+                *x = power::<F>(F::GENERATOR, i.saturating_mul(v));
             }
-            numbers.push(self.right_side::<F>(t, i))?;
+            if let Some(x) = row.last_mut() {
+                *x = self.right_side::<F>(t, i);
+            }
         }
-        Ok(numbers)
     }
 
     // The sum of the group of node j for coded column i.
@@ -93,12 +97,15 @@ impl Stripe<'_> {
     }
 
     // The straightforward encoder.
-    fn encode<F: Field>(&mut self, alloc: Global, file: &[u16]) -> Result<(), AllocError> {
+    fn encode<F: Field>(&mut self, file: &[u16]) {
         let code = self.code;
+        let r = code.parity_nodes();
+        let mut numbers = [0u16; MOST_NUMBERS];
+        let equations = &mut numbers[..r * (r + 1)];
         self.fill_data(file);
         for t in 0..code.data_columns() {
-            let equations = self.equations::<F>(alloc, t)?;
-            let solved = eliminate::<F>(equations, code.parity_nodes());
+            self.fill_equations::<F>(t, equations);
+            let solved = eliminate::<F>(equations, r);
             let (columns, data_nodes) = (code.columns(), code.data_nodes());
             let rows = self.cells.chunks_exact_mut(columns);
             for (v, row) in rows.skip(data_nodes).enumerate() {
@@ -108,21 +115,17 @@ impl Stripe<'_> {
             }
         }
         self.fill_groups::<F>();
-        Ok(())
     }
 }
 
 // How long an encoder takes for all its turns. Not the fastest turn, as in solve_bench: here a turn is so short
 // that the clock would show little of it, there one takes long and other work of the machine disturbs it.
-fn time_turns<E: FnMut() -> Result<(), AllocError>>(
-    rt: &HostRuntime,
-    mut encoder: E,
-) -> io::Result<Duration>
+fn time_turns<E: FnMut()>(rt: &HostRuntime, mut encoder: E) -> io::Result<Duration>
     requires { E.IsAlwaysCallable encoder }
 {
     let start = Instant::now(rt)?;
     for _turn in 0..TURNS {
-        encoder()?;
+        encoder();
     }
     start.elapsed(rt)
 }
@@ -141,22 +144,21 @@ fn print_ratio(rt: &HostRuntime, field: &str, slow: Duration, fast: Duration) ->
 
 // Runs both encoders on a file that is made up.
 fn run_both<F: Field>(rt: &HostRuntime, code: &Code, field: &str) -> io::Result<()> {
-    let alloc = rt.alloc();
-    let mut file = vec![in alloc; 0u16; code.file_length()]?;
-    fill_file::<F>(&mut file);
-    let mut cells = vec![in alloc; 0u16; MOST_CELLS]?;
-    let mut expected = vec![in alloc; 0u16; MOST_CELLS]?;
+    let mut symbols = [0u16; MOST_SYMBOLS];
+    let file = &mut symbols[..code.file_length()];
+    fill_file::<F>(file);
+    let mut cells = [0u16; MOST_CELLS];
+    let mut expected = [0u16; MOST_CELLS];
     // The encoder declines nothing here: the file has the code's length and symbols only, and the memory room.
     let fast = time_turns(rt, || {
-        let _ = encode::<F>(code, &file, &mut cells);
-        Ok(())
+        let _ = encode::<F>(code, file, &mut cells);
     })?;
     let slow = time_turns(rt, || {
         Stripe {
             code,
             cells: &mut expected,
         }
-        .encode::<F>(alloc, &file)
+        .encode::<F>(file);
     })?;
     let differing = cells
         .iter()
@@ -177,9 +179,8 @@ fn main(rt: HostRuntime) -> io::Result<()> {
         (64, 16, 8, 3),
         (18, 15, 2, 1),
     ] {
-        let title = format!(in rt.alloc(); "n {n}, k {k}, m {m}, a {a}")?;
-        println!(rt; "  {title}:")?;
-        eprintln!(rt; "  {title}:")?;
+        println!(rt; "  n {n}, k {k}, m {m}, a {a}:")?;
+        eprintln!(rt; "  n {n}, k {k}, m {m}, a {a}:")?;
         match Code::new(n, k, m, a) {
             Ok(code) => {
                 run_both::<Prime>(&rt, &code, "prime")?;

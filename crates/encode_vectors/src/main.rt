@@ -2,7 +2,7 @@
 // These share nothing with the encoder, nor with the slow one of encode_bench. Refusals are printed by number.
 #![tactic(auto)]
 
-use code::{Code, MOST_CELLS, Refusal};
+use code::{Code, MOST_CELLS, MOST_SYMBOLS, Refusal};
 use encode::encode;
 use field::{Bytes, Field, Prime};
 use std::{fmt, io};
@@ -47,8 +47,8 @@ struct Stripe<'a> {
 impl Stripe<'_> {
     // The number that stands at cell (j, c), if there is such a cell.
     fn cell(&self, j: usize, c: usize) -> Option<u16> {
-        let row = self.cells.chunks_exact(self.code.columns()).nth(j)?;
-        row.get(c).copied()
+        let at = j.checked_mul(self.code.columns())?.checked_add(c)?;
+        self.cells.get(at).copied()
     }
 
     // What the column rule wants to be 0 for column t and i.
@@ -123,17 +123,18 @@ fn compare_rest(count: usize, cells: &[u16]) -> Tally {
 
 // Encodes a file that is made up, and recomputes both rules on what stands in the memory.
 fn try_code<F: Field>(rt: &HostRuntime, code: &Code) -> io::Result<()> {
-    let mut file = vec![in rt.alloc(); 0u16; code.file_length()]?;
-    fill_file::<F>(&mut file);
-    let mut cells = vec![in rt.alloc(); MARK; MOST_CELLS]?;
-    match encode::<F>(code, &file, &mut cells) {
+    let mut symbols = [0u16; MOST_SYMBOLS];
+    let file = &mut symbols[..code.file_length()];
+    fill_file::<F>(file);
+    let mut cells = [MARK; MOST_CELLS];
+    match encode::<F>(code, file, &mut cells) {
         Ok(count) => print_rules::<F>(
             rt,
             Stripe {
                 code,
                 cells: &cells,
             },
-            &file,
+            file,
             count,
         ),
         Err(e) => println!(rt; "    refusal {}.", e.number()),
@@ -191,21 +192,22 @@ fn print_worked<F: Field>(rt: &HostRuntime) -> io::Result<()> {
     }
 }
 
-// What the encoder answers to a file in the small code, and whether a memory of 7,777s with so much room
-// stays as it is where it declines.
+// What the encoder answers to a file in the small code, and whether a memory of 7,777s with so much room, at most
+// for the 15 cells of the code, stays as it is where it declines.
 fn print_answer<F: Field>(
     rt: &HostRuntime,
     what: &str,
     file: &[u16],
     room: usize,
 ) -> io::Result<()> {
-    let mut cells = vec![in rt.alloc(); MARK; room]?;
-    match encode::<F>(&small_code(), file, &mut cells) {
+    let mut numbers = [MARK; 15];
+    let cells = &mut numbers[..room.min(15)];
+    match encode::<F>(&small_code(), file, cells) {
         Ok(count) => println!(rt; "  {what}: accepted, {count} cells."),
         Err(e) => println!(rt;
             "  {what}: refusal {}; the memory as it was: {}",
             e.number(),
-            compare_rest(0, &cells)
+            compare_rest(0, cells)
         ),
     }
 }

@@ -8,19 +8,21 @@ use code::{Code, Refusal};
 use encode::encode;
 use field::{Bytes, Field, Prime};
 use solve::{only_file, shared_symbol};
-use std::alloc::{AllocError, Global};
 use std::{fmt, io};
 use store::{Grid, LOST};
 use trial::{Solved, Tally, solve_cells};
 
 // The codes here have at most 20 symbols and 64 cells. Every solver gets more work memory than the 420
-// numbers that it needs for 20 symbols. Files and stripes are arrays of these lengths, and no Vec of a code's
-// own: for every code as many random numbers are drawn, and the cases stay those that were looked through.
+// numbers that it needs for 20 symbols, and the slow elimination 21 numbers for each of 64 cells. Files and
+// stripes are arrays of these lengths, and no Vec of a code's own: for every code as many random numbers are
+// drawn, and the cases stay those that were looked through.
 const SYMBOLS: usize = 20;
 
 const CELLS: usize = 64;
 
 const WORK: usize = 450;
+
+const EQUATIONS: usize = 1344;
 
 // What stands in the work memory before a call.
 const MARK: u32 = 7777;
@@ -59,8 +61,8 @@ fn cell_mut<'a>(
     node: usize,
     column: usize,
 ) -> Option<&'a mut u32> {
-    let row = held.chunks_exact_mut(code.columns()).nth(node)?;
-    row.get_mut(column)
+    let at = node.checked_mul(code.columns())?.checked_add(column)?;
+    held.get_mut(at)
 }
 
 // The stripe of the file at the front of these symbols where a grid holds its cells, and zeros behind it. The
@@ -145,11 +147,25 @@ fn counted_stripe<F: Field>(code: &Code) -> [u32; CELLS] {
     stripe::<F>(code, &COUNTED)
 }
 
+// The nodes that are lost, as they are printed.
+#[derive(Clone, Copy)]
+struct Lost<'a>(&'a [usize]);
+
+impl fmt::Display for Lost<'_> {
+    fn fmt<W: fmt::Write>(&self, f: &mut fmt::Formatter<W>) -> fmt::Result {
+        if self.0.is_empty() {
+            f.write_str("with all nodes")
+        } else {
+            write!(f, "without the nodes {:?}", self.0)
+        }
+    }
+}
+
 // What is known of cells, under a line that says what they are.
-fn print_known<F: Field>(
+fn print_known<F: Field, D: fmt::Display + Drop>(
     rt: &HostRuntime,
     code: &Code,
-    what: &str,
+    what: D,
     held: &mut [u32],
 ) -> io::Result<()> {
     println!(rt; "  {what}:")?;
@@ -167,12 +183,7 @@ fn print_losses<F: Field>(
     let code = code_of(numbers)?;
     let mut held = stripe::<F>(&code, symbols);
     lose_nodes(&code, lost, &mut held);
-    let what = if lost.is_empty() {
-        format!(in rt.alloc(); "with all nodes")?
-    } else {
-        format!(in rt.alloc(); "without the nodes {lost:?}")?
-    };
-    print_known::<F>(rt, &code, &what, &mut held)
+    print_known::<F, _>(rt, &code, Lost(lost), &mut held)
 }
 
 // Losses of whole nodes.
@@ -209,7 +220,7 @@ fn print_changes<F: Field>(
             *number = *x;
         }
     }
-    print_known::<F>(rt, &code, what, &mut held)
+    print_known::<F, _>(rt, &code, what, &mut held)
 }
 
 // Cells that do not fit together, and cells that hold no symbol.
@@ -435,18 +446,13 @@ impl Seen {
     }
 
     // Compares one case with the slow elimination.
-    fn compare_case<F: Field>(
-        &mut self,
-        alloc: Global,
-        code: &Code,
-        held: &mut [u32],
-    ) -> Result<(), AllocError> {
-        let solved = solve_cells::<F>(alloc, code, held)?;
+    fn compare_case<F: Field>(&mut self, code: &Code, held: &mut [u32]) {
+        let mut equations = [0u16; EQUATIONS];
+        let solved = solve_cells::<F>(code, held, &mut equations);
         let slow = solved.as_ref().map_err(|e| *e);
         let known = self.compare_places::<F>(code, held, slow);
         let file = self.compare_file::<F>(code, held, slow);
         self.note(file, known);
-        Ok(())
     }
 }
 
@@ -530,14 +536,20 @@ fn random_case<F: Field>(code: &Code, random: &mut Random) -> [u32; CELLS] {
 }
 
 // The random cases of one code.
-fn print_random<F: Field>(rt: &HostRuntime, code: &Code, random: &mut Random) -> io::Result<()> {
+fn print_random<F: Field>(
+    rt: &HostRuntime,
+    numbers: (usize, usize, usize, usize),
+    random: &mut Random,
+) -> io::Result<()> {
+    let (n, k, m, a) = numbers;
+    let code = code_of(numbers)?;
     let mut seen = Seen::new();
     for _case in 0..CASES {
-        let mut held = random_case::<F>(code, random);
-        seen.compare_case::<F>(rt.alloc(), code, &mut held)?;
+        let mut held = random_case::<F>(&code, random);
+        seen.compare_case::<F>(&code, &mut held);
     }
     println!(rt;
-        " {CASES} cases; no symbol in a cell in {}, contradictory {},",
+        "  n {n}, k {k}, m {m}, a {a}: {CASES} cases; no symbol in a cell in {}, contradictory {},",
         seen.foreign, seen.contradictory
     )?;
     println!(rt;
@@ -551,7 +563,7 @@ fn print_random<F: Field>(rt: &HostRuntime, code: &Code, random: &mut Random) ->
 // The random cases in one field.
 fn print_all_random<F: Field>(rt: &HostRuntime, seed: u32) -> io::Result<()> {
     let mut random = Random(seed);
-    for (n, k, m, a) in [
+    for numbers in [
         (2, 1, 1, 1),
         (4, 2, 2, 2),
         (4, 3, 2, 1),
@@ -560,9 +572,7 @@ fn print_all_random<F: Field>(rt: &HostRuntime, seed: u32) -> io::Result<()> {
         (7, 5, 4, 3),
         (8, 4, 5, 3),
     ] {
-        // the only place here that prints the four numbers
-        print!(rt; "  n {n}, k {k}, m {m}, a {a}:")?;
-        print_random::<F>(rt, &code_of((n, k, m, a))?, &mut random)?;
+        print_random::<F>(rt, numbers, &mut random)?;
     }
     Ok(())
 }

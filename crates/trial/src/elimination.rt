@@ -8,10 +8,9 @@ use field::Field;
 
 /// Equations after the elimination of their unknowns, as far as they go.
 #[derive(Debug, Drop)]
-pub struct Solved {
-    // For each equation the factors of the unknowns, and behind them the right side. One Vec of numbers and no
-    // Vec of rows: no plainer, since rows would need their widths stated, and their memory asked for, one by one.
-    numbers: Vec<u16>,
+pub struct Solved<'a> {
+    // For each equation the factors of the unknowns, and behind them the right side, where the caller lent them.
+    numbers: &'a [u16],
     unknowns: usize,
     // How many of the first equations were taken for an unknown each. The code makes its factor 1 there and
     // 0 in all others, and leaves no factor in the equations behind these; no clause says so.
@@ -19,22 +18,22 @@ pub struct Solved {
     // how many equations there are; a field, since the clauses name it
     count: usize,
     ghost few: { unknowns < 65536 },
-    ghost whole: { count * (unknowns + 1) ≤ length numbers.items },
-    ghost within: { rank * (unknowns + 1) ≤ length numbers.items },
+    ghost whole: { count * (unknowns + 1) ≤ length numbers.now },
+    ghost within: { rank * (unknowns + 1) ≤ length numbers.now },
 }
 
 /// Eliminates one unknown after another from equations that stand one behind another: of each the factors
-/// of the unknowns, and behind them the right side.
+/// of the unknowns, and behind them the right side. What comes out stands where they stood.
 #[tactic(auto, using(crate::proofs::Places::rows_fit))]
-pub fn eliminate<F: Field>(mut numbers: Vec<u16>, unknowns: usize) -> Solved
+pub fn eliminate<F: Field>(numbers: &mut [u16], unknowns: usize) -> Solved<'_>
     requires few { unknowns < 65536 }
     ensures unknowns { result.unknowns ≡ unknowns }
-    ensures long { length result.numbers.items ≡ length numbers.items }
-    ensures count { result.count ≡ length numbers.items / (unknowns + 1) }
+    ensures long { length result.numbers.now ≡ length numbers.old }
+    ensures count { result.count ≡ length numbers.old / (unknowns + 1) }
     ensures rank { result.rank ≤ unknowns }
 {
     let count = numbers.len() / (unknowns + 1);
-    let rank = take_unknowns::<F>(&mut numbers, unknowns);
+    let rank = take_unknowns::<F>(numbers, unknowns);
     Solved {
         numbers,
         unknowns,
@@ -136,11 +135,11 @@ fn only_at(factors: &[u16], p: usize) -> bool
         .all(|(c, factor)| c == p || *factor == 0)
 }
 
-impl Solved {
+impl Solved<'_> {
     /// What an unknown has to be, if the equations that were taken say so: the right side of one in which
     /// it alone has a factor.
     pub fn unknown(&self, p: usize) -> Option<u16>
-        ensures { Said self.now.unknowns self.now.numbers.items self.now.rank p result }
+        ensures { Said self.now.unknowns self.now.numbers.now self.now.rank p result }
     {
         let row = self.row_of(p)?;
         Some(self.numbers[row * (self.unknowns + 1) + self.unknowns])
@@ -149,8 +148,8 @@ impl Solved {
     // The first equation in which the unknown alone has a factor.
     fn row_of(&self, p: usize) -> Option<usize>
         ensures { MatchOption result
-            ((row : ℕ) → row < self.now.rank → Alone self.now.unknowns self.now.numbers.items row p → ⊥)
-            (λ row. (row < self.now.rank) × Alone self.now.unknowns self.now.numbers.items row p) }
+            ((row : ℕ) → row < self.now.rank → Alone self.now.unknowns self.now.numbers.now row p → ⊥)
+            (λ row. (row < self.now.rank) × Alone self.now.unknowns self.now.numbers.now row p) }
     {
         (0..self.rank).find(|row| self.is_alone(*row, p))
     }
@@ -158,8 +157,8 @@ impl Solved {
     // Whether the unknown alone has a factor in the row.
     fn is_alone(&self, row: usize, p: usize) -> bool
         requires { row < self.now.rank }
-        ensures { MatchBool result (Alone self.now.unknowns self.now.numbers.items row p)
-            (Alone self.now.unknowns self.now.numbers.items row p → ⊥) }
+        ensures { MatchBool result (Alone self.now.unknowns self.now.numbers.now row p)
+            (Alone self.now.unknowns self.now.numbers.now row p → ⊥) }
     {
         let at = row * (self.unknowns + 1);
         p < self.unknowns
@@ -170,8 +169,8 @@ impl Solved {
     // The first equation behind those taken whose right side is not 0. The elimination leaves no factor there.
     pub(crate) fn contradiction(&self) -> Option<usize>
         ensures { MatchOption result
-            (Consistent self.now.unknowns self.now.numbers.items self.now.rank self.now.count)
-            (λ row. entry self.now.unknowns self.now.numbers.items row self.now.unknowns ≢ 0) }
+            (Consistent self.now.unknowns self.now.numbers.now self.now.rank self.now.count)
+            (λ row. entry self.now.unknowns self.now.numbers.now row self.now.unknowns ≢ 0) }
     {
         (self.rank..self.count).find(|row| self.right_side(*row) != 0)
     }
@@ -179,7 +178,7 @@ impl Solved {
     // The right side of an equation.
     fn right_side(&self, row: usize) -> u16
         requires { row < self.now.count }
-        ensures { result ≡ entry self.now.unknowns self.now.numbers.items row self.now.unknowns }
+        ensures { result ≡ entry self.now.unknowns self.now.numbers.now row self.now.unknowns }
     {
         self.numbers[row * (self.unknowns + 1) + self.unknowns]
     }

@@ -7,7 +7,7 @@ mod elimination;
 mod sample;
 mod tally;
 
-pub use cells::solve_cells;
+pub use cells::{room, solve_cells};
 pub use elimination::{Solved, eliminate};
 pub use sample::fill_file;
 pub use tally::Tally;
@@ -19,7 +19,7 @@ mod tests {
     use encode::encode;
     use field::Prime;
 
-    // Memory suffices for a small code, and the file comes back from the last node alone.
+    // The numbers that `room` asks for suffice for a small code, and the file comes back from the last node alone.
     #[test]
     fn solves_for_the_file(rt: HostRuntime) {
         let code = Code::new(4, 2, 2, 2).unwrap();
@@ -31,7 +31,9 @@ mod tests {
         for (number, x) in held.iter_mut().zip(&cells).skip(12) {
             *number = u32::from(*x);
         }
-        let Ok(Ok(solved)) = solve_cells::<Prime>(rt.alloc(), &code, &held) else {
+        let mut numbers = [0u16; 80];
+        assert_eq!(rt; room(&code), 80);
+        let Some(solved) = solve_cells::<Prime>(&code, &held, &mut numbers).ok() else {
             assert!(rt; false, "no solution");
             return;
         };
@@ -39,7 +41,10 @@ mod tests {
             assert_eq!(rt; solved.unknown(p), Some(*symbol), "symbol {p}");
         }
         held[13] = 257;
-        let refused = solve_cells::<Prime>(rt.alloc(), &code, &held);
-        assert!(rt; matches!(refused, Ok(Err(Refusal::Foreign { node: 3, column: 1 }))));
+        let refused = solve_cells::<Prime>(&code, &held, &mut numbers).err();
+        assert_eq!(rt; refused, Some(Refusal::Foreign { node: 3, column: 1 }));
+        let mut few = [0u16; 79];
+        let refused = solve_cells::<Prime>(&code, &held, &mut few).err();
+        assert_eq!(rt; refused, Some(Refusal::Work));
     }
 }

@@ -9,8 +9,8 @@ use Rattle.trial.proofs.elimination.Solved.contradiction.Goals as goal
 pub returns : goal.returns
 returns c =
     let n : ℕ = c.args.self.now.unknowns in
-    let yes : ℕ → Type 0 = λ row. entry n c.args.self.now.numbers.items row n ≢ 0 in
-    let no : ℕ → Type 0 = λ row. entry n c.args.self.now.numbers.items row n ≡ 0 in
+    let yes : ℕ → Type 0 = λ row. entry n c.args.self.now.numbers.now row n ≢ 0 in
+    let no : ℕ → Type 0 = λ row. entry n c.args.self.now.numbers.now row n ≡ 0 in
     let end : ℕ = c.args.self.now.count in
     only_found yes end _ c.find.result (found_between yes no c.args.self.now.rank end c.find.result
     (first_from_find _ _ c.find.result yes no c.find.ensures.ran (YieldsList-from_range c.args.self.now.rank end _ refl refl)

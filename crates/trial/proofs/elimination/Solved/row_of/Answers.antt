@@ -8,7 +8,7 @@ use Rattle.trial.proofs.elimination.Solved.row_of.Goals as goal
 
 pub returns : goal.returns
 returns c =
-    let yes : ℕ → Type 0 = λ row. Alone c.args.self.now.unknowns c.args.self.now.numbers.items row c.args.p in
+    let yes : ℕ → Type 0 = λ row. Alone c.args.self.now.unknowns c.args.self.now.numbers.now row c.args.p in
     let no : ℕ → Type 0 = λ row. yes row → ⊥ in
     let rank : ℕ = c.args.self.now.rank in
     found_below yes no rank c.find.result (found_between yes no 0 rank c.find.result
