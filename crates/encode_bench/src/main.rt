@@ -144,6 +144,7 @@ fn print_ratio(rt: &HostRuntime, field: &str, slow: Duration, fast: Duration) ->
 
 // Runs both encoders on a file that is made up.
 fn run_both<F: Field>(rt: &HostRuntime, code: &Code, field: &str) -> io::Result<()> {
+    // Arrays of the largest size: this program asks for no memory.
     let mut symbols = [0u16; MOST_SYMBOLS];
     let file = &mut symbols[..code.file_length()];
     fill_file::<F>(file);
@@ -179,6 +180,7 @@ fn main(rt: HostRuntime) -> io::Result<()> {
         (64, 16, 8, 3),
         (18, 15, 2, 1),
     ] {
+        // Printed twice: a title made first would ask for memory.
         println!(rt; "  n {n}, k {k}, m {m}, a {a}:")?;
         eprintln!(rt; "  n {n}, k {k}, m {m}, a {a}:")?;
         match Code::new(n, k, m, a) {

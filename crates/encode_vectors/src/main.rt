@@ -45,7 +45,7 @@ struct Stripe<'a> {
 }
 
 impl Stripe<'_> {
-    // The number that stands at cell (j, c), if there is such a cell.
+    // The number that stands at cell (j, c), for a column of the code, if the memory has that place.
     fn cell(&self, j: usize, c: usize) -> Option<u16> {
         let at = j.checked_mul(self.code.columns())?.checked_add(c)?;
         self.cells.get(at).copied()
@@ -123,6 +123,7 @@ fn compare_rest(count: usize, cells: &[u16]) -> Tally {
 
 // Encodes a file that is made up, and recomputes both rules on what stands in the memory.
 fn try_code<F: Field>(rt: &HostRuntime, code: &Code) -> io::Result<()> {
+    // Arrays of the largest size, here and below: this program asks for no memory.
     let mut symbols = [0u16; MOST_SYMBOLS];
     let file = &mut symbols[..code.file_length()];
     fill_file::<F>(file);

@@ -188,8 +188,8 @@ pub fn nodes_asked(code: &Code) -> usize
     near.min(code.nodes() - 1)
 }
 
-// A power of the generator, as many exponents higher. One product for each: there are at most 2, where `field::power`
-// would take as many and more.
+// A power of the generator, `by` exponents higher. That takes `by` products, at most 2; `field::power` and a product
+// would take one to four.
 fn raised<F: Field>(power: u16, by: usize) -> u16
     ensures { (e : ℕ) → power ≡ α_power F.ops e → result ≡ α_power F.ops (e + by) }
 {

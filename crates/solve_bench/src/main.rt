@@ -52,8 +52,8 @@ impl Losses {
     }
 }
 
-// What a solver answers, and how many nanoseconds its fastest turn takes, of so many and one at least. Not the mean,
-// as in encode_bench: an elimination takes long, and other work of the machine disturbs it.
+// What a solver answers, and how many nanoseconds the fastest of these turns takes, of which there is at least one. Not
+// the mean, as in encode_bench: an elimination takes long, and other work of the machine disturbs it.
 fn fastest<T: Drop, S: FnMut() -> T>(
     rt: &HostRuntime,
     turns: u32,
@@ -182,6 +182,7 @@ fn main(rt: HostRuntime) -> io::Result<()> {
             println!(rt; "  no code.")?;
             continue;
         };
+        // Printed twice, as encode_bench does, which asks for no memory.
         println!(rt; "  n {n}, k {k}, m {m}, a {a}:")?;
         eprintln!(rt; "  n {n}, k {k}, m {m}, a {a}:")?;
         compare::<Prime>(&rt, "prime", &code)?;

@@ -54,7 +54,8 @@ fn code_of((n, k, m, a): (usize, usize, usize, usize)) -> io::Result<Code> {
     Code::new(n, k, m, a).map_err(|_| io::Error::other("no code"))
 }
 
-// The number that a grid over these holds for the cell at a node and a column, if there is such a cell.
+// The number that a grid over these holds for the cell at a node and a column, for a column of the code, if there is
+// that place.
 fn cell_mut<'a>(
     code: &Code,
     held: &'a mut [u32],
