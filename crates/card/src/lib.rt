@@ -148,7 +148,7 @@ impl<'a> Store for Card<'a> {
         (self.bytes.len() - self.used) / WIDEST
     }
 
-    fn edit(&mut self, j: usize, c: usize, v: Option<u16>) -> bool {
+    fn attempt(&mut self, j: usize, c: usize, v: Option<u16>) -> bool {
         if !self.takes(j, c) {
             return false;
         }

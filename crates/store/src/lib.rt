@@ -17,11 +17,11 @@ pub use shape::{Shape, count_columns, count_nodes};
 // A cell is two numbers, the node and the column, here and in the crates above: a type for the pair would stand
 // in every public signature, and the clauses would speak of its two numbers as before.
 
-/// A store of cells. The questions change nothing and tell the meaning. `edit`, `write` and `lose` say
-/// whether the change was taken: that is so exactly where there is such a cell and the allowance is not
-/// used up. A change that is not taken leaves the meaning as it is.
+/// A store of cells. The questions change nothing and tell the meaning. `attempt`, `edit`, `write` and `lose`
+/// say whether the change was taken: that is so exactly where there is such a cell and the allowance is not
+/// used up. A change that is not taken leaves the meaning as it is, and `edit` leaves the store itself as it is.
 ///
-/// An implementation writes `edit`, and `write` and `lose` are made of it.
+/// An implementation writes `attempt`, and the others are made of it.
 pub trait Store {
     /// the nodes, the columns, what each cell holds, and the allowance
     ghost meaning: { Self → Meaning };
@@ -55,10 +55,21 @@ pub trait Store {
 
     /// Writes a symbol into a cell, or loses the cell where `v` is `None`. What that does to the meaning
     /// and to the frame follows by the laws below.
-    fn edit(&mut self, j: usize, c: usize, v: Option<u16>) -> bool
+    fn attempt(&mut self, j: usize, c: usize, v: Option<u16>) -> bool
         ensures answer { result ≡ allowed (meaning self.old) j c }
         ensures edited { OnTrue result (edited self.old j c v self.new) }
         ensures declined { OnFalse result (declines self.old self.new) };
+
+    /// The same, but it asks first whether the change is allowed, and attempts no other: one that is declined leaves
+    /// the store itself as it was.
+    fn edit(&mut self, j: usize, c: usize, v: Option<u16>) -> bool
+        ensures answer { result ≡ allowed (meaning self.old) j c }
+        ensures edited { OnTrue result (edited self.old j c v self.new) }
+        ensures declined { OnFalse result (self.new ≡ self.old) }
+    {
+        let allowed = j < self.nodes() && c < self.columns() && self.allowance() > 0;
+        allowed && self.attempt(j, c, v)
+    }
 
     /// Writes a symbol into a cell.
     fn write(&mut self, j: usize, c: usize, s: u16) -> bool
@@ -68,7 +79,7 @@ pub trait Store {
         ensures edited { OnTrue result (edited self.old j c (Some s) self.new) }
         ensures declined { OnFalse result (declines self.old self.new) }
     {
-        self.edit(j, c, Some(s))
+        self.attempt(j, c, Some(s))
     }
 
     /// Loses a cell.
@@ -79,7 +90,7 @@ pub trait Store {
         ensures edited { OnTrue result (edited self.old j c None self.new) }
         ensures declined { OnFalse result (declines self.old self.new) }
     {
-        self.edit(j, c, None)
+        self.attempt(j, c, None)
     }
 
     /// a cell outside is told as lost, and no cell holds a number above 65,535
@@ -184,7 +195,7 @@ impl<'a> Store for Grid<'a> {
         ALLOWANCE
     }
 
-    fn edit(&mut self, j: usize, c: usize, v: Option<u16>) -> bool {
+    fn attempt(&mut self, j: usize, c: usize, v: Option<u16>) -> bool {
         match self.place(j, c) {
             None => false,
             Some(at) => {
@@ -192,5 +203,22 @@ impl<'a> Store for Grid<'a> {
                 true
             }
         }
+    }
+}
+
+#[cfg(test)]
+mod tests {
+    use super::*;
+
+    // A change of a cell inside is made, and one outside leaves the row as it is.
+    #[test]
+    fn edits_a_grid(rt: HostRuntime) {
+        let mut row = [5u32, 6, 7, 8, 9];
+        let mut grid = Grid::take_up(2, 2, &mut row);
+        assert!(rt; grid.edit(1, 0, Some(65535)));
+        assert!(rt; grid.edit(0, 1, None));
+        assert!(rt; !grid.edit(2, 0, Some(1)));
+        assert!(rt; !grid.edit(0, 2, None));
+        assert_eq!(rt; row, [5, LOST, 65535, 8, 9]);
     }
 }
