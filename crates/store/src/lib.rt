@@ -19,7 +19,8 @@ pub use shape::{Shape, count_columns, count_nodes};
 
 /// A store of cells. The questions change nothing and tell the meaning. `attempt`, `edit`, `write` and `lose`
 /// say whether the change was taken: that is so exactly where there is such a cell and the allowance is not
-/// used up. A change that is not taken leaves the meaning as it is, and `edit` leaves the store itself as it is.
+/// used up. A change that is not taken leaves the meaning as it is, and where `edit` declines, the store itself
+/// stays as it is.
 ///
 /// An implementation writes `attempt`, and the others are made of it.
 pub trait Store {
